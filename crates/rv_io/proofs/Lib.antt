@@ -1,0 +1,2 @@
+pub mod FilesByName
+pub mod Steps
