@@ -1,2 +1,3 @@
 pub mod FilesByName
+pub mod Fronts
 pub mod Steps

@@ -44,6 +44,11 @@ impl Buf {
         bytes
     }
 
+    /// The allocator that the buffer grows by.
+    pub fn alloc(&self) -> Global {
+        *self.bytes.allocator()
+    }
+
     /// Adds the bytes at the end.
     pub fn put(&mut self, bytes: &[u8]) -> Result<(), Memory>
         ensures appended { OnOk result (self.new ≡ self.old ++ bytes.now) }
