@@ -1,0 +1,4 @@
+pub mod Cutting
+pub mod HexDigits
+pub mod HexWords
+pub mod Text
