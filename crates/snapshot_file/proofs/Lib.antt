@@ -1,0 +1,5 @@
+pub mod Runs
+pub mod Laid
+pub mod Adding
+pub mod Parts
+pub mod Putting
