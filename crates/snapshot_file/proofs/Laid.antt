@@ -1,12 +1,13 @@
 -- Spans of a buffer, and the runs that they are.
 use Rattle.std.proofs.Math.Seq.{take-length}
-use Rattle.std.proofs.Common.{◌≡◌, ◌∙◌, sym, ap, subst, refl, ℕ, zero, suc, ◌+◌, ◌-◌, ◌<◌, ◌≤◌, ◌^◌, Bool, true, false, cond, List, [], ◌∷◌, ◌++◌, map, length, take, drop, get_or, arith, length-drop, length-take}
+use Rattle.std.proofs.Common.{◌≡◌, ◌∙◌, sym, ap, subst, refl, ℕ, zero, suc, ◌+◌, ◌-◌, ◌<◌, ◌≤◌, ◌^◌, Bool, true, false, cond, List, [], ◌∷◌, ◌++◌, map, length, take, drop, get_or, Option, None, arith, lit≤, length-drop, length-take}
+use Rattle.std.specs.Prelude.{slice_get}
 use Rattle.std.proofs.lemmas.List.{get_or-map, length-map}
 use Rattle.std.specs.List.Sorted.{IsNonDecreasingBy, IsPartitionPoint}
 use Rattle.snapshot_file.specs.declared.mem.Span.{Span}
 use Rattle.snapshot_file.specs.Memory.{Run, end_of, byte_at, Rise, AreApart}
-use Rattle.snapshot_file.specs.Spans.{run_of, runs_of, Fill, IsRest}
-use Rattle.snapshot_file.proofs.Runs.{rest_is, no_rest}
+use Rattle.snapshot_file.specs.Spans.{run_of, runs_of, Fill, IsRest, last_end}
+use Rattle.snapshot_file.proofs.Runs.{rest_is, no_rest, behind}
 
 nil_of : (xs : List ℕ) → length xs ≡ 0 → xs ≡ []
 nil_of [] e = refl
@@ -75,3 +76,35 @@ all_behind n xs = ap (λ k. take k (drop n xs)) (sym (length-drop n xs)) ∙ tak
 
 pub none_behind : (n : ℕ) (xs : List ℕ) → length xs ≤ n → drop n xs ≡ []
 none_behind n xs h = nil_of (drop n xs) (omega (arith, length-drop n xs))
+
+last_above : (gap from : ℕ) (run : Run) (runs : List Run) → Rise gap from (run ∷ runs) → end_of run ≤ last_end (run ∷ runs)
+last_above gap from run [] h = omega arith
+last_above gap from run (next ∷ runs) h = omega (arith, last_above gap (end_of run + gap) next runs h.3, h.3.0)
+
+-- no byte stands from the end of the last run on
+pub past_last : (gap from a : ℕ) (runs : List Run) → Rise gap from runs → last_end runs ≤ a → byte_at runs a ≡ None
+past_last gap from a [] h l = refl
+past_last gap from a (run ∷ []) h l = behind run a (slice_get run.bytes (a - run.at)) None l
+past_last gap from a (run ∷ next ∷ runs) h l =
+    behind run a (slice_get run.bytes (a - run.at)) (byte_at (next ∷ runs) a) (omega (arith, last_above gap from run (next ∷ runs) h))
+    ∙ past_last gap (end_of run + gap) a (next ∷ runs) h.3 l
+
+-- the end of the last span's run
+pub last_span_end : (buffer : List ℕ) (spans : List Span) (i : ℕ) (d : Span) → i + 1 ≡ length spans → last_end (runs_of buffer spans) ≡ end_of (run_of buffer (get_or spans i d))
+last_span_end buffer [] i d e = absurd (omega arith)
+last_span_end buffer (s ∷ []) zero d e = refl
+last_span_end buffer (s ∷ []) (suc i) d e = absurd (omega arith)
+last_span_end buffer (s ∷ t ∷ spans) zero d e = absurd (omega arith)
+last_span_end buffer (s ∷ t ∷ spans) (suc i) d e = last_span_end buffer (t ∷ spans) i d (omega arith)
+
+pub last_small : (gap from : ℕ) (runs : List Run) → Rise gap from runs → last_end runs ≤ 2 ^ 64
+last_small gap from [] h = lit≤ tt
+last_small gap from (run ∷ []) h = h.2
+last_small gap from (run ∷ next ∷ runs) h = last_small gap (end_of run + gap) (next ∷ runs) h.3
+
+-- what `end_of` adds up
+pub end_is : (buffer : List ℕ) (spans : List Span) (s : Span) (at : ℕ) (run : List ℕ) → 0 < length spans → s ≡ get_or spans (length spans - 1) s → at ≡ s.at → run ≡ (run_of buffer s).bytes
+    → at + length run ≡ last_end (runs_of buffer spans)
+end_is buffer spans s at run l e is part =
+    let sum : at + length run ≡ end_of (run_of buffer s) = omega (arith, is, ap length part) in
+    sum ∙ ap (λ t. end_of (run_of buffer t)) e ∙ sym (last_span_end buffer spans (length spans - 1) s (omega arith))

@@ -3,3 +3,4 @@ pub mod Laid
 pub mod Adding
 pub mod Parts
 pub mod Putting
+pub mod Steps

@@ -43,3 +43,9 @@ pub record IsRest (runs : List Run) (a : ℕ) (rest : List ℕ) : Type 0 where
   pub there : (j : ℕ) → j < length rest → byte_at runs (a + j) ≡ slice_get rest j
   pub past : byte_at runs (a + length rest) ≡ None
   pub below : 0 < length rest → a + length rest ≤ 2 ^ 64
+
+-- the end of the last run, or 0 where there is none
+abbrev pub last_end : List Run → ℕ
+last_end [] = 0
+last_end (run ∷ []) = end_of run
+last_end (run ∷ next ∷ runs) = last_end (next ∷ runs)

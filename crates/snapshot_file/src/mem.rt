@@ -3,7 +3,7 @@ ghost use Rattle.std.specs.Prelude.{◌≡◌, ℕ, ◌+◌, ◌-◌, ◌^◌, �
 ghost use Rattle.std.specs.Option.{option_copied};
 ghost use Rattle.std.specs.List.Sorted.{IsNonDecreasingBy, IsPartitionPoint};
 ghost use Rattle.snapshot_file.specs.Memory.{byte_at, bytes_of, items_at, AreApart};
-ghost use Rattle.snapshot_file.specs.Spans.{run_of, runs_of, abuts, longer, Fill, IsRest, with_run, with_bytes};
+ghost use Rattle.snapshot_file.specs.Spans.{run_of, runs_of, abuts, longer, Fill, IsRest, with_run, with_bytes, last_end};
 
 use rv_io::Memory;
 use std::alloc::Global;
@@ -71,6 +71,19 @@ fn rest_of<'a>(buffer: &'a [u8], spans: &[Span], at: u64) -> &'a [u8]
         &run[off as usize..]
     } else {
         &[]
+    }
+}
+
+/// The end of the last run, or 0 where there is none.
+fn end_of(buffer: &[u8], spans: &[Span]) -> u128
+    requires apart { AreApart (runs_of buffer.now spans.now) }
+    requires filled { Fill 0 spans.now (length buffer.now) }
+    ensures last { result ≡ last_end (runs_of buffer.now spans.now) }
+    ensures none { (a : ℕ) → result ≤ a → byte_at (runs_of buffer.now spans.now) a ≡ None }
+{
+    match spans.last() {
+        Some(span) => u128::from(span.at) + part(buffer, *span).len() as u128,
+        None => 0,
     }
 }
 
@@ -167,6 +180,14 @@ impl Mem {
         }
         put_run(&mut self.buffer, &mut self.spans, at, bytes)?;
         Ok(())
+    }
+
+    /// The end of the last run, or 0 where there is none: no byte stands from there on.
+    pub(crate) fn end(&self) -> u128
+        ensures last { result ≡ last_end self.now }
+        ensures none { (a : ℕ) → result ≤ a → byte_at self.now a ≡ None }
+    {
+        end_of(self.buffer.as_slice(), self.spans.as_slice())
     }
 
     /// What stands from the address on to the end of its run.
