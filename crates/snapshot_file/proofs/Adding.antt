@@ -1,11 +1,11 @@
 -- A run behind others.
-use Rattle.std.proofs.Common.{◌≡◌, ◌≢◌, ◌∙◌, sym, ap, refl, ℕ, zero, suc, ◌+◌, ◌-◌, ◌<◌, ◌≤◌, ◌^◌, ◌&&◌, ◌==◌, ◌⊎◌, Bool, true, false, cond, List, [], ◌∷◌, ◌++◌, length, get_or, Option, Some, None, nat_le, nat_lt, arith, ⊎_elim, length-append}
-use Rattle.std.proofs.lemmas.Bool.{cases_lt, cases_Bool}
-use Rattle.std.proofs.lemmas.Option.{slice_get-get_or, slice_get_past}
+use Rattle.std.proofs.Common.{◌≡◌, ◌≢◌, ◌∙◌, sym, ap, refl, ℕ, zero, suc, ◌+◌, ◌-◌, ◌<◌, ◌≤◌, ◌^◌, ◌&&◌, ◌==◌, Bool, true, false, cond, List, [], ◌∷◌, ◌++◌, length, None, nat_le, nat_lt, arith, ⊎_elim, length-append}
+use Rattle.std.proofs.lemmas.Bool.{cases_lt}
+use Rattle.std.proofs.lemmas.Option.{slice_get-get_or}
 use Rattle.std.specs.Prelude.{slice_get}
 use Rattle.snapshot_file.specs.Memory.{Run, end_of, byte_at, Rise, AreApart}
-use Rattle.snapshot_file.specs.Spans.{with_run, with_bytes}
-use Rattle.snapshot_file.proofs.Runs.{inside, before, behind, begins}
+use Rattle.snapshot_file.specs.Spans.{with_run}
+use Rattle.snapshot_file.proofs.Runs.{inside, before, behind}
 
 -- every run ends at the address or below it
 abbrev pub EndBy : ℕ → List Run → Type 0

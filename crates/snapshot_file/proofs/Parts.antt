@@ -1,6 +1,5 @@
 -- Parts of memory, where a run is known from an address on.
-use Rattle.std.proofs.Common.{◌≡◌, ◌∙◌, sym, ap, refl, ℕ, zero, suc, ◌+◌, ◌-◌, ◌<◌, ◌≤◌, ◌^◌, Bool, true, false, cond, List, [], ◌∷◌, length, take, Option, Some, None, nat_lt, arith}
-use Rattle.std.specs.Prelude.{slice_get}
+use Rattle.std.proofs.Common.{◌≡◌, ◌∙◌, sym, ap, refl, ℕ, zero, suc, ◌+◌, ◌<◌, ◌≤◌, ◌^◌, Bool, true, false, cond, List, [], ◌∷◌, length, take, Option, Some, None, nat_lt, arith}
 use Rattle.std.specs.Option.{option_map}
 use Rattle.snapshot_file.specs.Memory.{Run, byte_at, item_at, items_at, bytes_of}
 use Rattle.snapshot_file.specs.Spans.{IsRest}

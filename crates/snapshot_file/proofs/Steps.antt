@@ -1,5 +1,5 @@
 -- One line of a snapshot file after another.
-use Rattle.std.proofs.Common.{◌≡◌, ◌∙◌, sym, ap, refl, ℕ, ◌<◌, ◌+◌, ◌==◌, List, [], ◌∷◌, length, arith, subst, Result, Ok, Err}
+use Rattle.std.proofs.Common.{◌≡◌, ◌∙◌, sym, ap, refl, ℕ, ◌<◌, ◌==◌, List, [], ◌∷◌, length, arith, subst, Result, Ok, Err}
 use Rattle.std.specs.Result.{IsErr, IsErrAnd}
 use Rattle.std.proofs.lemmas.List.Splits.{length-slice_split}
 use Rattle.readers.specs.Lines.{lines}
@@ -9,7 +9,8 @@ use Rattle.snapshot_file.specs.declared.snapshot.Reading.{Reading}
 use Rattle.snapshot_file.specs.declared.snapshot.Snapshot.{Snapshot}
 use Rattle.snapshot_file.specs.Reading.{◌>>=◌, step, steps, Gives, Fails}
 
-steps_more : (r : Reading) (line : List ℕ) (more : List (List ℕ)) → 0 < length more → steps r (line ∷ more) ≡ (step r line >>= λ s. steps s more)
+-- a line with pieces behind it
+pub steps_more : (r : Reading) (line : List ℕ) (more : List (List ℕ)) → 0 < length more → steps r (line ∷ more) ≡ (step r line >>= λ s. steps s more)
 steps_more r line [] h = absurd (omega arith)
 steps_more r line (next ∷ more) h = refl
 

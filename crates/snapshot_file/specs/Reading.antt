@@ -1,5 +1,5 @@
 -- What the lines of a snapshot file say, or the first line that breaks a rule.
-use Rattle.std.specs.Prelude.{◌≡◌, ℕ, ◌+◌, ◌-◌, ◌^◌, nat_lt, ◌==◌, min, Bool, List, [], ◌∷◌, length, Option, Some, None, Result, Ok, Err, if◌then◌else◌, codes}
+use Rattle.std.specs.Prelude.{◌≡◌, ℕ, ◌+◌, ◌-◌, ◌^◌, nat_lt, ◌==◌, min, List, [], ◌∷◌, length, Option, Some, None, Result, Ok, Err, if◌then◌else◌, codes}
 use Rattle.std.specs.Str.{bytes_eq, is_utf8}
 use Rattle.hex.specs.Hex.{decode_of}
 use Rattle.hex.specs.declared.error.FromHexError.{FromHexError}
@@ -11,7 +11,6 @@ use Rattle.snapshot_file.specs.declared.snapshot.Stage.{Stage}
 use Rattle.snapshot_file.specs.declared.snapshot.Stage.TheVariants as stages
 use Rattle.snapshot_file.specs.declared.snapshot.Reading.{Reading}
 use Rattle.snapshot_file.specs.declared.snapshot.Snapshot.{Snapshot}
-use Rattle.snapshot_file.specs.Memory.{Run, end_of}
 use Rattle.snapshot_file.specs.Spans.{with_bytes, last_end}
 
 infixl 10 ◌>>=◌

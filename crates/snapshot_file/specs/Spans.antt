@@ -1,5 +1,5 @@
 -- How a `Mem` keeps its runs: as spans of one buffer.
-use Rattle.std.specs.Prelude.{◌≡◌, ℕ, ◌+◌, ◌≤◌, ◌<◌, ◌==◌, List, [], ◌∷◌, ◌++◌, length, take, drop, map, ◌^◌, Bool, false, Option, None, slice_get, if◌then◌else◌}
+use Rattle.std.specs.Prelude.{◌≡◌, ℕ, ◌+◌, ◌≤◌, ◌<◌, ◌==◌, List, [], ◌∷◌, ◌++◌, length, take, drop, map, ◌^◌, Bool, false, None, slice_get, if◌then◌else◌}
 use Rattle.snapshot_file.specs.declared.mem.Span.{Span}
 use Rattle.snapshot_file.specs.Memory.{Run, end_of, byte_at}
 

@@ -1,8 +1,7 @@
-use Rattle.std.proofs.Common.{◌≡◌, ◌≤◌, arith, rules, nat_le}
+use Rattle.std.proofs.Common.{rules, nat_le}
 use Rattle.std.proofs.lemmas.List.Sorted.{IsPartitionPoint-from_clause, IsPartitionedBy-leb}
 use Rattle.std.proofs.lemmas.Bool.{leb-true, leb-false}
 use Rattle.snapshot_file.specs.declared.mem.Span.{Span}
-use Rattle.snapshot_file.proofs.Runs.{rest_is}
 use Rattle.snapshot_file.proofs.mem.begun.Goals as goal
 
 pub returns-clause-parted : goal.returns-clause-parted

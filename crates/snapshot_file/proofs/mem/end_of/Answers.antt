@@ -1,5 +1,5 @@
-use Rattle.std.proofs.Common.{◌≡◌, ◌+◌, ◌-◌, arith, length, ap, sym, ◌≤◌, ◌^◌, subst}
-use Rattle.snapshot_file.specs.Spans.{runs_of, last_end}
+use Rattle.std.proofs.Common.{◌-◌, arith, length, ap}
+use Rattle.snapshot_file.specs.Spans.{runs_of}
 use Rattle.snapshot_file.proofs.Laid.{span_within, end_is, last_small, past_last}
 use Rattle.snapshot_file.specs.declared.mem.Span.{Span}
 use Rattle.snapshot_file.proofs.mem.end_of.Goals as goal

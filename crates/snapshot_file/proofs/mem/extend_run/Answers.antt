@@ -1,6 +1,5 @@
-use Rattle.std.proofs.Common.{◌≡◌, ◌+◌, ◌-◌, ◌<◌, ◌≤◌, ◌++◌, ℕ, length, get_or, set, ap, sym, subst, arith, length-append, List}
+use Rattle.std.proofs.Common.{◌-◌, length, ap, arith, length-append}
 use Rattle.snapshot_file.specs.declared.mem.Span.{Span}
-use Rattle.snapshot_file.specs.Spans.{runs_of, Fill, abuts, longer, with_run}
 use Rattle.snapshot_file.proofs.Laid.{span_within}
 use Rattle.snapshot_file.proofs.Putting.{set_longer, longer_runs, longer_fills}
 use Rattle.snapshot_file.proofs.mem.extend_run.Goals as goal

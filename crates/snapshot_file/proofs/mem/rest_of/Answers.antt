@@ -1,4 +1,4 @@
-use Rattle.std.proofs.Common.{◌-◌, ◌<◌, arith, get_or, length, subst, sym, drop, List, ℕ}
+use Rattle.std.proofs.Common.{◌-◌, arith, length, subst}
 use Rattle.snapshot_file.specs.declared.mem.Span.{Span}
 use Rattle.snapshot_file.specs.Spans.{runs_of, IsRest}
 use Rattle.snapshot_file.proofs.Laid.{spans_rise, span_within, no_span, last_span, all_behind, none_behind}

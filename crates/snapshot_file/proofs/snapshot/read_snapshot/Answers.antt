@@ -1,6 +1,6 @@
-use Rattle.std.proofs.Common.{◌≡◌, ◌∙◌, sym, ap, subst, Result, Err}
+use Rattle.std.proofs.Common.{◌∙◌, sym, subst}
 use Rattle.readers.specs.Lines.{lines}
-use Rattle.snapshot_file.specs.Reading.{◌>>=◌, step, steps, start, Fails, Gives, snapshot_of}
+use Rattle.snapshot_file.specs.Reading.{step, steps, Fails, snapshot_of}
 use Rattle.snapshot_file.proofs.Steps.{one_line, line_fails, line_reads, hands_on}
 use Rattle.snapshot_file.proofs.snapshot.read_snapshot.Goals as goal
 

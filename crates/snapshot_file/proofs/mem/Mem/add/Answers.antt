@@ -1,5 +1,3 @@
-use Rattle.std.proofs.Common.{◌≡◌, ◌∙◌, ◌<◌, ◌+◌, ◌^◌, ap, sym, subst, arith, length}
-use Rattle.snapshot_file.specs.Memory.{Run, AreApart, byte_at}
 use Rattle.snapshot_file.proofs.Adding.{put_apart, put_adds}
 use Rattle.snapshot_file.proofs.mem.Mem.add.Goals as goal
 

@@ -1,4 +1,4 @@
-use Rattle.std.proofs.Common.{ap, sym, ◌∙◌}
+use Rattle.std.proofs.Common.{sym}
 use Rattle.snapshot_file.proofs.Parts.{part_there, part_missing}
 use Rattle.snapshot_file.proofs.mem.Mem.bytes.Goals as goal
 
