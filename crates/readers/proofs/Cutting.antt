@@ -68,12 +68,14 @@ parts_lack c (x ∷ xs) =
       | false ↦ λ e. onto c x (slice_split (λ y. y == c) xs) (λ q. grind (arith, e, q)) (parts_lack c xs)
     ] refl
 
-only_item : (ps : List (List ℕ)) (a : List ℕ) → only ps ≡ Some a → ps ≡ a ∷ []
+-- a list that has one item
+pub only_item : (ps : List (List ℕ)) (a : List ℕ) → only ps ≡ Some a → ps ≡ a ∷ []
 only_item [] a e = absurd (cc)
 only_item (x ∷ []) a e = cc
 only_item (x ∷ y ∷ ps) a e = absurd (cc)
 
-two_items : (ps : List (List ℕ)) (a b : List ℕ) → two ps ≡ Some (a, b) → ps ≡ a ∷ b ∷ []
+-- a list that has two
+pub two_items : (ps : List (List ℕ)) (a b : List ℕ) → two ps ≡ Some (a, b) → ps ≡ a ∷ b ∷ []
 two_items [] a b e = absurd (cc)
 two_items (x ∷ []) a b e = absurd (cc)
 two_items (x ∷ y ∷ []) a b e = ap (λ q. q.0 ∷ q.1 ∷ []) (same_Some (x, y) (a, b) e)

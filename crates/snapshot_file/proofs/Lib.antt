@@ -1,0 +1,13 @@
+pub mod Runs
+pub mod Laid
+pub mod Adding
+pub mod Parts
+pub mod Putting
+pub mod Steps
+pub mod Chains
+pub mod Canonical
+pub mod Segments
+pub mod Plain
+pub mod ReadLines
+pub mod ReadFiles
+pub mod SpelledFiles

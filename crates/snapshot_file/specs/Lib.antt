@@ -1,0 +1,4 @@
+pub mod Memory
+pub mod Spans
+pub mod Reading
+pub mod Snapshots
