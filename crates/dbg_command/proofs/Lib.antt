@@ -1,0 +1,9 @@
+pub mod Near
+pub mod Declarations
+pub mod Statics
+pub mod Numbers
+pub mod Text
+pub mod Printed
+pub mod Endings
+pub mod Refusals
+pub mod Puts
