@@ -10,9 +10,9 @@ use Rattle.readers.specs.Hex.{hex_of, hex_text}
 use Rattle.readers.specs.Lines.{Lacks, CutAt, words, three}
 use Rattle.readers.proofs.Cutting.{parts_cut, parts_whole}
 use Rattle.readers.proofs.HexWords.{both, hex_some, spelling_of, hex_lacks_space, hex_lacks_lf}
-use Rattle.layout_model.specs.declared.primitives.Primitive.{Primitive}
-use Rattle.layout_model.specs.declared.primitives.Primitive.TheVariants as prims
-use Rattle.layout_model.specs.declared.set.Static.{Static}
+use Rattle.layout_model.specs.declared.primitive.Primitive.{Primitive}
+use Rattle.layout_model.specs.declared.primitive.Primitive.TheVariants as prims
+use Rattle.dbg_command.specs.declared.prim_static.PrimStatic.{PrimStatic}
 use Rattle.dbg_command.specs.Layouts.{is_digit, is_word, is_word_byte, are_word_bytes, prim_name, static_text, IsDeclarable}
 use Rattle.dbg_command.specs.StaticOf.{◌>>=◌, only_if, named_in, all_prims, prim_of, fields_of, declared_by, static_of}
 
@@ -64,7 +64,7 @@ named_among (q ∷ qs) word p e =
     (λ n x. named_among qs word p x)
 
 -- the words of the line are put together
-whole : (line a b c d : List ℕ) (n : ℕ) (p : Primitive) (s : Static) → words line ≡ a ∷ b ∷ c ∷ d ∷ [] → bytes_eq a (codes "static") ≡ true → hex_of b ≡ Some n → prim_of c ≡ Some p → is_word d ≡ true → record { name = d; prim = p; addr = n } ≡ s → (line ≡ static_text s) × IsDeclarable s
+whole : (line a b c d : List ℕ) (n : ℕ) (p : Primitive) (s : PrimStatic) → words line ≡ a ∷ b ∷ c ∷ d ∷ [] → bytes_eq a (codes "static") ≡ true → hex_of b ≡ Some n → prim_of c ≡ Some p → is_word d ≡ true → record { name = d; prim = p; addr = n } ≡ s → (line ≡ static_text s) × IsDeclarable s
 whole line a b c d n p s ws kind addr prim name e =
     let x = (bytes_eq-Decides a (codes "static")).0 kind in
     let y = spelling_of b n addr in
@@ -73,7 +73,7 @@ whole line a b c d n p s ws kind addr prim name e =
     let text : line ≡ static_text (record { name = d; prim = p; addr = n }) = rw (joined, x, y.1, z) refl in
     subst (λ t. (line ≡ static_text t) × IsDeclarable t) e (text, (y.0, name))
 
-of_words : (line : List ℕ) (ws : List (List ℕ)) (s : Static) → words line ≡ ws → declared_by ws ≡ Some s → (line ≡ static_text s) × IsDeclarable s
+of_words : (line : List ℕ) (ws : List (List ℕ)) (s : PrimStatic) → words line ≡ ws → declared_by ws ≡ Some s → (line ≡ static_text s) × IsDeclarable s
 of_words line [] s w e = absurd (cc)
 of_words line (a ∷ ws) s w e =
     cond_then (bytes_eq a (codes "static")) (three ws >>= fields_of) None (Some s) e
@@ -86,7 +86,7 @@ of_words line (a ∷ ws) s w e =
     (λ no e1. absurd (cc))
 
 -- the line that is read is the static's own
-pub line_of_static : (line : List ℕ) (s : Static) → static_of line ≡ Some s → (line ≡ static_text s) × IsDeclarable s
+pub line_of_static : (line : List ℕ) (s : PrimStatic) → static_of line ≡ Some s → (line ≡ static_text s) × IsDeclarable s
 unfolding static_of
 line_of_static line s e = of_words line (words line) s refl e
 
@@ -138,7 +138,7 @@ name_lacks x name n h = bytes_lack x name n (word_bytes name h)
 cut : (front back : List ℕ) → Lacks 32 front → words (front ++ 32 ∷ back) ≡ front ∷ words back
 cut front back h = parts_cut 32 (front ++ 32 ∷ back) front back (record { text = refl; first = h })
 
-words_of_static : (s : Static) → IsDeclarable s → words (static_text s) ≡ codes "static" ∷ hex_text s.addr ∷ prim_name s.prim ∷ s.name ∷ []
+words_of_static : (s : PrimStatic) → IsDeclarable s → words (static_text s) ≡ codes "static" ∷ hex_text s.addr ∷ prim_name s.prim ∷ s.name ∷ []
 words_of_static s h =
     cut (codes "static") (hex_text s.addr ++ 32 ∷ (prim_name s.prim ++ 32 ∷ s.name)) (bytes_lack 32 (codes "static") not_space refl)
     ∙ ap (λ ws. codes "static" ∷ ws) (cut (hex_text s.addr) (prim_name s.prim ++ 32 ∷ s.name) (hex_lacks_space s.addr h.0)
@@ -146,7 +146,7 @@ words_of_static s h =
     ∙ ap (λ ws. prim_name s.prim ∷ ws) (parts_whole 32 s.name (name_lacks 32 s.name not_space h.1))))
 
 -- a static is read from its own line
-pub static_of_line : (s : Static) → IsDeclarable s → static_of (static_text s) ≡ Some s
+pub static_of_line : (s : PrimStatic) → IsDeclarable s → static_of (static_text s) ≡ Some s
 unfolding static_of
 static_of_line s h =
     let number = hex_some (hex_text s.addr) s.addr h.0 refl in
@@ -154,7 +154,7 @@ static_of_line s h =
     ap declared_by (words_of_static s h) ∙ fields
 
 -- the line of a static has no LF in it
-pub static_lacks_lf : (s : Static) → IsDeclarable s → Lacks 10 (static_text s)
+pub static_lacks_lf : (s : PrimStatic) → IsDeclarable s → Lacks 10 (static_text s)
 static_lacks_lf s h =
     let P : ℕ → Type 0 = λ y. y ≢ 10 in
     All-append P (codes "static ") (hex_text s.addr ++ 32 ∷ (prim_name s.prim ++ 32 ∷ s.name))

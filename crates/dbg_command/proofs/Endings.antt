@@ -11,6 +11,8 @@ module _ (named : Type 0) (told : Option Files) (Holds : Files → ℕ → List 
   pub ends_stop : (stop : Stop) → Stops told Holds rb rn stop → (IsReadFault (Err stop) → named) → Ends named told Holds rb rn wb wn (status_of stop) [] (message stop)
   ends_stop stops.Usage h n = record { answered = λ _. h; read = λ e. absurd (omega arith); write = λ e. absurd (omega arith); memory = λ e. absurd (omega arith); status = lit≤ tt }
   ends_stop stops.NotYet h n = record { answered = λ _. h; read = λ e. absurd (omega arith); write = λ e. absurd (omega arith); memory = λ e. absurd (omega arith); status = lit≤ tt }
+  ends_stop (stops.SnapshotLine l r) h n = record { answered = λ _. h; read = λ e. absurd (omega arith); write = λ e. absurd (omega arith); memory = λ e. absurd (omega arith); status = lit≤ tt }
+  ends_stop (stops.SnapshotOverlap l) h n = record { answered = λ _. h; read = λ e. absurd (omega arith); write = λ e. absurd (omega arith); memory = λ e. absurd (omega arith); status = lit≤ tt }
   ends_stop (stops.CannotOpen name) h n = record { answered = λ _. h; read = λ e. absurd (omega arith); write = λ e. absurd (omega arith); memory = λ e. absurd (omega arith); status = lit≤ tt }
   ends_stop stops.ReadFault h n = record { answered = λ l. absurd (omega arith); read = λ e. (n tt, h, refl, refl); write = λ e. absurd (omega arith); memory = λ e. absurd (omega arith); status = lit≤ tt }
   ends_stop stops.WriteFault h n = absurd h

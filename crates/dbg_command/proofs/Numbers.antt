@@ -6,8 +6,8 @@ use Rattle.byteorder.specs.Endian.{little_from, little_number}
 use Rattle.byteorder.specs.Numbers.{little_from-cons}
 use Rattle.snapshot_file.specs.Memory.{Run, items_at, bytes_of, number, join}
 use Rattle.rust_value.specs.declared.value.Val.{Val}
-use Rattle.layout_model.specs.declared.primitives.Primitive.{Primitive}
-use Rattle.layout_model.specs.Images.{Lacks, IsValue, IsImage}
+use Rattle.layout_model.specs.declared.primitive.Primitive.{Primitive}
+use Rattle.dbg_command.specs.Images.{Lacks, IsValue, IsImage}
 
 join_none : (o : Option ℕ) → join o None ≡ None
 join_none None = refl

@@ -4,9 +4,9 @@ use Rattle.std.specs.List.{All}
 use Rattle.std.specs.Str.{bytes_eq}
 use Rattle.readers.specs.Hex.{hex_text}
 use Rattle.readers.specs.Lines.{with_end}
-use Rattle.layout_model.specs.declared.primitives.Primitive.{Primitive}
-use Rattle.layout_model.specs.declared.primitives.Primitive.TheVariants as prims
-use Rattle.layout_model.specs.declared.set.Static.{Static}
+use Rattle.layout_model.specs.declared.primitive.Primitive.{Primitive}
+use Rattle.layout_model.specs.declared.primitive.Primitive.TheVariants as prims
+use Rattle.dbg_command.specs.declared.prim_static.PrimStatic.{PrimStatic}
 
 -- a digit, a letter or `_`
 abbrev pub is_digit : ℕ → Bool
@@ -44,23 +44,23 @@ prim_name prims.F32 = codes "f32"
 prim_name prims.F64 = codes "f64"
 
 -- the line of a static, without its end
-abbrev pub static_text : Static → List ℕ
+abbrev pub static_text : PrimStatic → List ℕ
 static_text s = codes "static " ++ (hex_text s.addr ++ 32 ∷ (prim_name s.prim ++ 32 ∷ s.name))
 
 -- a layout file can declare the static: its address has 64 bits and its name is a word
-abbrev pub IsDeclarable : Static → Type 0
+abbrev pub IsDeclarable : PrimStatic → Type 0
 IsDeclarable s = (s.addr < 2 ^ 64) × (is_word s.name ≡ true)
 
 -- no two addresses are further apart than 2^32 - 1
-abbrev pub AreNear : List Static → Type 0
+abbrev pub AreNear : List PrimStatic → Type 0
 AreNear statics = All (λ s. All (λ t. s.addr ≤ t.addr + 4294967295) statics) statics
 
 -- the lines of the statics
-abbrev pub static_lines : List Static → List ℕ
+abbrev pub static_lines : List PrimStatic → List ℕ
 static_lines statics = flat_map (λ s. with_end (static_text s)) statics
 
 -- the lines declare at most 20,000 statics, in order
-pub record DeclareStatics (lines : List ℕ) (statics : List Static) : Type 0 where
+pub record DeclareStatics (lines : List ℕ) (statics : List PrimStatic) : Type 0 where
   pub text : lines ≡ static_lines statics
   pub each : All IsDeclarable statics
   pub count : length statics ≤ 20000
@@ -70,7 +70,7 @@ abbrev pub head : List ℕ
 head = codes "rdbg-layout 1" ++ 10 ∷ (codes "target 8" ++ 10 ∷ [])
 
 -- the file has the first form, and declares these statics
-abbrev pub Declares : List ℕ → List Static → Type 0
+abbrev pub Declares : List ℕ → List PrimStatic → Type 0
 Declares bytes statics = (lines : List ℕ) × (bytes ≡ head ++ lines) × DeclareStatics lines statics × AreNear statics
 
 -- what a reader answers: the one thing that the bytes say, or that they say none
@@ -78,11 +78,11 @@ abbrev pub Answer : {A : Type 0} → (A → Type 0) → Option A → Type 0
 Answer Says (Some a) = Says a
 Answer {A} Says None = (a : A) → ¬ (Says a)
 
-abbrev pub ReadsStatic : List ℕ → Option Static → Type 0
+abbrev pub ReadsStatic : List ℕ → Option PrimStatic → Type 0
 ReadsStatic line = Answer (λ s. (line ≡ static_text s) × IsDeclarable s)
 
-abbrev pub ReadsStatics : List ℕ → Option (List Static) → Type 0
+abbrev pub ReadsStatics : List ℕ → Option (List PrimStatic) → Type 0
 ReadsStatics lines = Answer (DeclareStatics lines)
 
-abbrev pub Reads : List ℕ → Option (List Static) → Type 0
+abbrev pub Reads : List ℕ → Option (List PrimStatic) → Type 0
 Reads bytes = Answer (Declares bytes)

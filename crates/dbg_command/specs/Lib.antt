@@ -1,3 +1,4 @@
+pub mod Images
 pub mod Layouts
 pub mod StaticOf
 pub mod Stops

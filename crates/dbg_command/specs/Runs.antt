@@ -23,9 +23,7 @@ abbrev pub Stops : Option Files → (Files → ℕ → List ℕ → List ℕ →
 Stops told Holds before now stops.ReadFault = Rose before now
 Stops told Holds before now stops.WriteFault = ⊥
 Stops told Holds before now stops.Memory = ⊤
-Stops told Holds before now stops.Usage = IfSome told (λ files. Holds files (status_of stops.Usage) [] (message stops.Usage))
-Stops told Holds before now stops.NotYet = IfSome told (λ files. Holds files (status_of stops.NotYet) [] (message stops.NotYet))
-Stops told Holds before now (stops.CannotOpen n) = IfSome told (λ files. Holds files (status_of (stops.CannotOpen n)) [] (message (stops.CannotOpen n)))
+Stops told Holds before now stop = IfSome told (λ files. Holds files (status_of stop) [] (message stop))
 
 -- a whole output, or why there is none
 abbrev pub Gives : Option Files → (Files → ℕ → List ℕ → List ℕ → Type 0) → ℕ → ℕ → Result (List ℕ) Stop → Type 0
@@ -47,8 +45,7 @@ Fetched told name limit before now (Err stops.NotYet) = HasFile told name.now (�
 Fetched told name limit before now (Err (stops.CannotOpen n)) = (n ≡ name) × IfSome told (λ files. file files name.now ≡ None)
 Fetched told name limit before now (Err stops.ReadFault) = Rose before now
 Fetched told name limit before now (Err stops.Memory) = ⊤
-Fetched told name limit before now (Err stops.Usage) = ⊥
-Fetched told name limit before now (Err stops.WriteFault) = ⊥
+Fetched told name limit before now (Err _) = ⊥
 
 -- Why a run ends with this status, output and message.
 pub record Ends (named : Type 0) (told : Option Files) (Holds : Files → ℕ → List ℕ → List ℕ → Type 0) (reads_before reads_now writes_before writes_now : ℕ) (code : ℕ) (output text : List ℕ) : Type 0 where

@@ -3,9 +3,9 @@ use Rattle.std.specs.Prelude.{ℕ, Bool, List, [], ◌∷◌, Option, Some, None
 use Rattle.std.specs.Str.{bytes_eq}
 use Rattle.readers.specs.Hex.{hex_of}
 use Rattle.readers.specs.Lines.{words, three}
-use Rattle.layout_model.specs.declared.primitives.Primitive.{Primitive}
-use Rattle.layout_model.specs.declared.primitives.Primitive.TheVariants as prims
-use Rattle.layout_model.specs.declared.set.Static.{Static}
+use Rattle.layout_model.specs.declared.primitive.Primitive.{Primitive}
+use Rattle.layout_model.specs.declared.primitive.Primitive.TheVariants as prims
+use Rattle.dbg_command.specs.declared.prim_static.PrimStatic.{PrimStatic}
 use Rattle.dbg_command.specs.Layouts.{prim_name, is_word}
 
 -- the first of the primitives with this name
@@ -28,16 +28,16 @@ abbrev pub only_if : Bool → Option Unit
 only_if b = if b then Some tt else None
 
 -- the three words behind the first
-abbrev pub fields_of : List ℕ × List ℕ × List ℕ → Option Static
+abbrev pub fields_of : List ℕ × List ℕ × List ℕ → Option PrimStatic
 fields_of fields = do
   addr ← hex_of fields.0
   prim ← prim_of fields.1
   _ ← only_if (is_word fields.2)
   Some (record { name = fields.2; prim = prim; addr = addr })
 
-abbrev pub declared_by : List (List ℕ) → Option Static
+abbrev pub declared_by : List (List ℕ) → Option PrimStatic
 declared_by [] = None
 declared_by (w ∷ ws) = if bytes_eq w (codes "static") then three ws >>= fields_of else None
 
-unfoldable pub static_of : List ℕ → Option Static
+unfoldable pub static_of : List ℕ → Option PrimStatic
 static_of line = declared_by (words line)

@@ -7,8 +7,8 @@ ghost use Rattle.dbg_command.specs.Runs.{Gives, Fetched, IsReadFault};
 
 use crate::layout::read_layout;
 use crate::lines::put_lines;
+use crate::prim_static::PrimStatic;
 use crate::stop::Stop;
-use layout_model::Static;
 use rv_io::{Buf, FetchErr, Inputs, Text};
 use snapshot_file::SnapErr;
 use std::alloc::Global;
@@ -80,7 +80,7 @@ fn of_form<'a, I: Inputs>(
 /// The lines of the statics over the second file.
 fn of_layout<'a, I: Inputs>(
     alloc: Global,
-    statics: &[Static],
+    statics: &[PrimStatic],
     snapshot: &'a str,
     inputs: &mut I,
 ) -> Result<Buf, Stop<'a>>
@@ -90,8 +90,9 @@ fn of_layout<'a, I: Inputs>(
     let bytes = fetch_file(alloc, inputs, snapshot, SNAPSHOT_LIMIT)?;
     let snap = match snapshot_file::read(alloc, bytes.as_bytes()) {
         Ok(snap) => snap,
+        Err(SnapErr::BadLine { line, rule }) => return Err(Stop::SnapshotLine { line, rule }),
+        Err(SnapErr::Overlap { line }) => return Err(Stop::SnapshotOverlap(line)),
         Err(SnapErr::Memory) => return Err(Stop::Memory),
-        Err(SnapErr::NotYet) => return Err(Stop::NotYet),
     };
     let mut text = Buf::new(alloc);
     put_lines(statics, &snap, &mut text)?;

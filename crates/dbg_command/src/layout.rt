@@ -3,8 +3,8 @@ ghost use Rattle.std.specs.Prelude.{◌≡◌, ◌≤◌, ◌<◌, ◌+◌, ◌^
 ghost use Rattle.std.specs.List.{All};
 ghost use Rattle.dbg_command.specs.Layouts.{Reads, ReadsStatics, AreNear};
 
+use crate::prim_static::PrimStatic;
 use crate::static_line::read_static;
-use layout_model::Static;
 use readers::cut_line;
 use rv_io::{List, Memory};
 use std::alloc::Global;
@@ -16,7 +16,7 @@ const MOST_STATICS: usize = 20_000;
 const MOST_APART: u64 = 0xffff_ffff;
 
 /// The statics that the file declares, if it has the first form.
-pub fn read_layout(alloc: Global, bytes: &[u8]) -> Result<Option<List<Static>>, Memory>
+pub fn read_layout(alloc: Global, bytes: &[u8]) -> Result<Option<List<PrimStatic>>, Memory>
     ensures { IfOk result (Reads bytes.now) }
 {
     let Some(lines) = bytes.strip_prefix(b"rdbg-layout 1\ntarget 8\n".as_slice()) else {
@@ -33,7 +33,7 @@ pub fn read_layout(alloc: Global, bytes: &[u8]) -> Result<Option<List<Static>>, 
 }
 
 /// The statics that the lines declare, if each line declares one and there are not too many.
-fn read_statics(alloc: Global, lines: &[u8]) -> Result<Option<List<Static>>, Memory>
+fn read_statics(alloc: Global, lines: &[u8]) -> Result<Option<List<PrimStatic>>, Memory>
     ensures { IfOk result (ReadsStatics lines.now) }
 {
     let mut statics = List::new(alloc);
@@ -56,7 +56,7 @@ fn read_statics(alloc: Global, lines: &[u8]) -> Result<Option<List<Static>>, Mem
 }
 
 /// Whether no two addresses are too far apart.
-fn are_near(statics: &[Static]) -> bool
+fn are_near(statics: &[PrimStatic]) -> bool
     ensures { IsTrue result ↔ AreNear statics.now }
 {
     let low = lowest(statics);
@@ -64,7 +64,7 @@ fn are_near(statics: &[Static]) -> bool
 }
 
 /// The lowest address, or the greatest number where there is no static.
-fn lowest(statics: &[Static]) -> u64
+fn lowest(statics: &[PrimStatic]) -> u64
     ensures below { All (λ s. result ≤ s.addr) statics.now }
     ensures fits { All (λ s. s.addr < 2 ^ 64) statics.now }
     ensures greatest { (n : ℕ) → n < 2 ^ 64 → All (λ s. n ≤ s.addr) statics.now → n ≤ result }
@@ -78,7 +78,7 @@ fn lowest(statics: &[Static]) -> u64
 }
 
 /// Whether all addresses, which are at or above `low`, are within reach of it.
-fn all_within(statics: &[Static], low: u64) -> bool
+fn all_within(statics: &[PrimStatic], low: u64) -> bool
     requires { All (λ s. low ≤ s.addr) statics.now }
     ensures { IsTrue result ↔ All (λ s. s.addr ≤ low + 4294967295) statics.now }
 {

@@ -5,6 +5,8 @@ mod answer;
 mod command;
 mod layout;
 mod lines;
+mod outcome;
+mod prim_static;
 mod static_line;
 mod stop;
 mod values;

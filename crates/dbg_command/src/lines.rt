@@ -1,16 +1,17 @@
 //! The printed lines.
 ghost use Rattle.std.specs.Prelude.{◌≡◌, ◌++◌, ℕ, List, OnOk};
-ghost use Rattle.layout_model.specs.declared.outcome.Outcome.{Outcome};
-ghost use Rattle.dbg_command.specs.Lines.{AreStaticLines, Prints, outcome_text, static_line};
+ghost use Rattle.dbg_command.specs.declared.outcome.Outcome.{Outcome};
+ghost use Rattle.dbg_command.specs.Lines.{AreStaticLines, HasTexts, Prints, outcome_text, static_line};
 
+use crate::outcome::Outcome;
+use crate::prim_static::PrimStatic;
 use crate::values::read_value;
-use layout_model::{Outcome, Static};
 use rust_value::text;
 use rv_io::{Buf, Memory};
 use snapshot_file::{Mem, Snapshot};
 
 /// Appends all that is printed of the statics.
-pub fn put_lines(statics: &[Static], snap: &Snapshot, out: &mut Buf) -> Result<(), Memory>
+pub fn put_lines(statics: &[PrimStatic], snap: &Snapshot, out: &mut Buf) -> Result<(), Memory>
     ensures { OnOk result ((text : List ℕ) × (out.new ≡ out.old ++ text) × Prints statics.now snap.now text) }
 {
     let pc = snap.pc;
@@ -20,7 +21,7 @@ pub fn put_lines(statics: &[Static], snap: &Snapshot, out: &mut Buf) -> Result<(
 }
 
 /// A line for each static.
-fn put_statics(statics: &[Static], mem: &Mem, out: &mut Buf) -> Result<(), Memory>
+fn put_statics(statics: &[PrimStatic], mem: &Mem, out: &mut Buf) -> Result<(), Memory>
     ensures { OnOk result ((text : List ℕ) × (out.new ≡ out.old ++ text) × AreStaticLines statics.now mem.now text) }
 {
     for item in statics {
@@ -30,7 +31,8 @@ fn put_statics(statics: &[Static], mem: &Mem, out: &mut Buf) -> Result<(), Memor
     Ok(())
 }
 
-fn put_static(item: &Static, outcome: Outcome, out: &mut Buf) -> Result<(), Memory>
+fn put_static(item: &PrimStatic, outcome: Outcome, out: &mut Buf) -> Result<(), Memory>
+    requires { HasTexts outcome }
     ensures { OnOk result (out.new ≡ out.old ++ static_line item.now outcome) }
 {
     out.put(b"static ")?;
@@ -41,6 +43,7 @@ fn put_static(item: &Static, outcome: Outcome, out: &mut Buf) -> Result<(), Memo
 }
 
 fn put_outcome(outcome: Outcome, out: &mut Buf) -> Result<(), Memory>
+    requires { HasTexts outcome }
     ensures { OnOk result (out.new ≡ out.old ++ outcome_text outcome) }
 {
     match outcome {

@@ -3,7 +3,8 @@ ghost use Rattle.std.specs.Prelude.{◌≡◌, ◌≢◌, IfOk, IfSome, MatchOpt
 ghost use Rattle.dbg_command.specs.Layouts.{is_word, are_word_bytes, is_word_byte, prim_name};
 ghost use Rattle.dbg_command.specs.StaticOf.{named_in, prim_of, static_of, fields_of};
 
-use layout_model::{Primitive, Static};
+use crate::prim_static::PrimStatic;
+use layout_model::Primitive;
 use readers::{cut_word, read_hex, three_words};
 use rv_io::{Memory, Text};
 use std::alloc::Global;
@@ -31,7 +32,7 @@ const PRIMITIVES: [Primitive; 17] = [
 
 /// The static that the line declares, if it does.
 #[tactic(auto, unfolding(crate::specs::StaticOf::static_of))]
-pub fn read_static(alloc: Global, line: &[u8]) -> Result<Option<Static>, Memory>
+pub fn read_static(alloc: Global, line: &[u8]) -> Result<Option<PrimStatic>, Memory>
     ensures { IfOk result (λ o. o ≡ static_of line.now) }
 {
     let (first, Some(rest)) = cut_word(line) else {
@@ -52,7 +53,7 @@ fn read_fields(
     addr: &[u8],
     prim: &[u8],
     name: &[u8],
-) -> Result<Option<Static>, Memory>
+) -> Result<Option<PrimStatic>, Memory>
     ensures { IfOk result (λ o. o ≡ fields_of (addr.now, prim.now, name.now)) }
 {
     let Some(addr) = read_hex(addr) else {
@@ -65,7 +66,7 @@ fn read_fields(
         return Ok(None);
     }
     let name = Text::from_bytes(alloc, name)?;
-    Ok(Some(Static { name, prim, addr }))
+    Ok(Some(PrimStatic { name, prim, addr }))
 }
 
 /// The primitive with this name.

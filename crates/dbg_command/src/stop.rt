@@ -1,8 +1,9 @@
 //! Why a run ends without an answer, and how it says so.
-ghost use Rattle.std.specs.Prelude.{◌≡◌};
-ghost use Rattle.dbg_command.specs.Stops.{status_of, front_of, name_in, message};
+ghost use Rattle.std.specs.Prelude.{◌≡◌, ◌++◌, ◌∷◌, [], decimal};
+ghost use Rattle.dbg_command.specs.Stops.{status_of, message};
 ghost use Rattle.dbg_command.specs.Runs.{Says, joined};
 
+use itoa::Buffer;
 use rv_io::{Memory, Sink};
 
 /// Why a run ends without an answer.
@@ -12,6 +13,10 @@ pub enum Stop<'a> {
     Usage,
     /// A file has not the form that is read.
     NotYet,
+    /// A line of the snapshot, counted from 1, breaks a rule.
+    SnapshotLine { line: u32, rule: u8 },
+    /// The memory on this line of the snapshot begins below the end of the memory before.
+    SnapshotOverlap(u32),
     /// There is no file of this name.
     CannotOpen(&'a str),
     /// A read failed.
@@ -38,7 +43,8 @@ pub fn status(stop: Stop<'_>) -> u8
 {
     match stop {
         Stop::Usage => 2,
-        Stop::NotYet | Stop::CannotOpen(_) => 1,
+        Stop::NotYet | Stop::SnapshotLine { .. } | Stop::SnapshotOverlap(_) | Stop::CannotOpen(_) =>
+            1,
         Stop::ReadFault => 3,
         Stop::WriteFault => 4,
         Stop::Memory => 5,
@@ -49,32 +55,49 @@ pub fn status(stop: Stop<'_>) -> u8
 pub fn tell<E: Sink>(err: &mut E, stop: Stop<'_>)
     ensures { Says (E.written err.old) (E.written err.new) (E.faults err.old) (E.faults err.new) (message stop.entry) }
 {
-    let parts: [&[u8]; 3] = [front(stop), name(stop), b"\n"];
-    put_parts(err, &parts);
-}
-
-/// What the message begins with.
-fn front<'a>(stop: Stop<'a>) -> &'a [u8]
-    ensures { result.now ≡ front_of stop.entry }
-{
     match stop {
-        Stop::Usage => b"rdbg: usage",
-        Stop::NotYet => b"rdbg: not yet",
-        Stop::CannotOpen(_) => b"rdbg: cannot open ",
-        Stop::ReadFault => b"rdbg: read fault",
-        Stop::WriteFault => b"rdbg: write fault",
-        Stop::Memory => b"rdbg: out of memory",
+        Stop::Usage => tell_text(err, b"rdbg: usage", b""),
+        Stop::NotYet => tell_text(err, b"rdbg: not yet", b""),
+        Stop::SnapshotLine { line, rule } => tell_numbers(
+            err,
+            b"rdbg: snapshot line ",
+            line,
+            b" rule ",
+            u32::from(rule),
+        ),
+        Stop::SnapshotOverlap(line) => tell_number(err, b"rdbg: snapshot overlap ", line, b""),
+        Stop::CannotOpen(name) => tell_text(err, b"rdbg: cannot open ", name.as_bytes()),
+        Stop::ReadFault => tell_text(err, b"rdbg: read fault", b""),
+        Stop::WriteFault => tell_text(err, b"rdbg: write fault", b""),
+        Stop::Memory => tell_text(err, b"rdbg: out of memory", b""),
     }
 }
 
-/// The name that the message ends with, if any.
-fn name<'a>(stop: Stop<'a>) -> &'a [u8]
-    ensures { result.now ≡ name_in stop.entry }
+/// Puts a line of two texts.
+fn tell_text<E: Sink>(err: &mut E, front: &[u8], text: &[u8])
+    ensures { Says (E.written err.old) (E.written err.new) (E.faults err.old) (E.faults err.new) (front.now ++ text.now ++ 10 ∷ []) }
 {
-    match stop {
-        Stop::CannotOpen(name) => name.as_bytes(),
-        _ => b"",
-    }
+    put_parts(err, &[front, text, b"\n"]);
+}
+
+/// Puts a line of a text, a number and a text.
+fn tell_number<E: Sink>(err: &mut E, front: &[u8], number: u32, back: &[u8])
+    ensures { Says (E.written err.old) (E.written err.new) (E.faults err.old) (E.faults err.new) (front.now ++ decimal number ++ back.now ++ 10 ∷ []) }
+{
+    let mut digits = Buffer::new();
+    let number = digits.format(number).as_bytes();
+    put_parts(err, &[front, number, back, b"\n"]);
+}
+
+/// Puts a line of a text, a number, a text and a number.
+fn tell_numbers<E: Sink>(err: &mut E, front: &[u8], first: u32, between: &[u8], second: u32)
+    ensures { Says (E.written err.old) (E.written err.new) (E.faults err.old) (E.faults err.new) (front.now ++ decimal first ++ between.now ++ decimal second ++ 10 ∷ []) }
+{
+    let mut digits = Buffer::new();
+    let mut others = Buffer::new();
+    let first = digits.format(first).as_bytes();
+    let second = others.format(second).as_bytes();
+    put_parts(err, &[front, first, between, second, b"\n"]);
 }
 
 /// Puts texts one after the other, up to the first of which a put fails.

@@ -132,7 +132,7 @@ fn a_run_without_an_answer_says_why(rt: HostRuntime) -> Result<(), Fail> {
 }
 
 #[test]
-fn a_file_of_another_form_is_not_read_yet(rt: HostRuntime) -> Result<(), Fail> {
+fn a_layout_of_another_form_is_not_read_yet(rt: HostRuntime) -> Result<(), Fail> {
     let layouts = [
         "",
         "rdbg-layout 1\ntarget 8",
@@ -153,25 +153,41 @@ fn a_file_of_another_form_is_not_read_yet(rt: HostRuntime) -> Result<(), Fail> {
         "rdbg-layout 1\ntarget 8\nstatic 0x1 u8 A\n\n",
         "rdbg-layout 1\ntarget 8\nstatic 0x0 u8 A\nstatic 0x100000000 u8 B\n",
     ];
-    let snapshots = [
-        "rdbg-snapshot 1\n",
-        "rdbg-snapshot 1\npc 0x0",
-        "rdbg-snapshot 1\npc 0x00\n",
-        "rdbg-snapshot 1\npc 0x0\nmem 0x1000 \n",
-        "rdbg-snapshot 1\npc 0x0\nmem 0x1000 012\n",
-        "rdbg-snapshot 1\npc 0x0\nmem 0xffffffffffffffff 0102\n",
-        "rdbg-snapshot 1\npc 0x0\nmem 0x1000 0102\nmem 0x1001 03\n",
-        "rdbg-snapshot 1\npc 0x0\nreg rax 0x0\n",
-    ];
     for layout in layouts {
         let ended = printed(rt.alloc(), layout, FIVE_SNAPSHOT)?;
         assert_eq!(rt; ended.err.written(), b"rdbg: not yet\n".as_slice());
         assert_eq!(rt; ended.out.written(), b"".as_slice());
         assert_eq!(rt; ended.status, 1);
     }
-    for snapshot in snapshots {
+    Ok(())
+}
+
+#[test]
+fn a_snapshot_that_breaks_a_rule_is_named_by_its_line(rt: HostRuntime) -> Result<(), Fail> {
+    let cases = [
+        ("", "rdbg: snapshot line 1 rule 2\n"),
+        ("rdbg-snapshot 1\n", "rdbg: snapshot line 2 rule 2\n"),
+        ("rdbg-snapshot 1\npc 0x0", "rdbg: snapshot line 2 rule 1\n"),
+        (
+            "rdbg-snapshot 1\npc 0x00\n",
+            "rdbg: snapshot line 2 rule 4\n",
+        ),
+        (
+            "rdbg-snapshot 1\npc 0x0\nmem 0x1000 012\n",
+            "rdbg: snapshot line 3 rule 6\n",
+        ),
+        (
+            "rdbg-snapshot 1\npc 0x0\nmem 0xffffffffffffffff 0102\n",
+            "rdbg: snapshot line 3 rule 7\n",
+        ),
+        (
+            "rdbg-snapshot 1\npc 0x0\nreg rax 0x0\nmem 0x1000 0102\nmem 0x1001 03\n",
+            "rdbg: snapshot overlap 5\n",
+        ),
+    ];
+    for (snapshot, wanted) in cases {
         let ended = printed(rt.alloc(), FIVE, snapshot)?;
-        assert_eq!(rt; ended.err.written(), b"rdbg: not yet\n".as_slice());
+        assert_eq!(rt; ended.err.written(), wanted.as_bytes());
         assert_eq!(rt; ended.out.written(), b"".as_slice());
         assert_eq!(rt; ended.status, 1);
     }

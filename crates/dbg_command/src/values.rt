@@ -1,19 +1,23 @@
 //! Values of primitive types from memory.
-ghost use Rattle.std.specs.Prelude.{◌≡◌, ◌<◌, ◌^◌, ◌≤◌, ◌*◌, MatchOption, IfSome, length};
+ghost use Rattle.std.specs.Prelude.{◌≡◌, ◌<◌, ◌^◌, ◌≤◌, ◌*◌, MatchOption, IfSome, IsTrue, length};
 ghost use Rattle.byteorder.specs.Endian.{little_number};
 ghost use Rattle.snapshot_file.specs.Memory.{items_at, number};
 ghost use Rattle.rust_value.specs.declared.value.Val.{Val};
-ghost use Rattle.layout_model.specs.Images.{IsOutcome, IsValue};
-ghost use Rattle.layout_model.specs.Sizes.{size_of_prim};
+ghost use Rattle.rust_value.specs.Utf8.{has_texts};
+ghost use Rattle.dbg_command.specs.Lines.{HasTexts};
+ghost use Rattle.dbg_command.specs.Images.{IsOutcome, IsValue};
+ghost use Rattle.layout_model.specs.Primitives.{prim_bytes};
 
+use crate::outcome::Outcome;
 use byteorder::{ByteOrder, LittleEndian};
-use layout_model::{Outcome, Primitive, prim_size};
+use layout_model::{Primitive, prim_size};
 use rust_value::Val;
 use snapshot_file::Mem;
 
 /// What is shown of a primitive at an address. Takes no memory.
 pub fn read_value(mem: &Mem, at: u64, prim: Primitive) -> Outcome
-    ensures { IsOutcome prim (items_at mem.now at (size_of_prim prim)) result }
+    ensures outcome { IsOutcome prim (items_at mem.now at (prim_bytes prim)) result }
+    ensures texts { HasTexts result }
 {
     match number_at(mem, at, prim_size(prim)) {
         None => Outcome::Unavailable,
@@ -49,8 +53,9 @@ fn number_of(bytes: &[u8]) -> u128
 
 /// The value that the number is at the type, if it is one.
 fn value_of(prim: Primitive, n: u128) -> Option<Val>
-    requires { n < 256 ^ size_of_prim prim }
-    ensures { MatchOption result ((v : Val) → IsValue prim n v → ⊥) (λ v. IsValue prim n v) }
+    requires { n < 256 ^ prim_bytes prim }
+    ensures value { MatchOption result ((v : Val) → IsValue prim n v → ⊥) (λ v. IsValue prim n v) }
+    ensures texts { IfSome result (λ v. IsTrue (has_texts v)) }
 {
     match prim {
         Primitive::Unit => Some(Val::Unit),

@@ -1,13 +1,15 @@
-//! What is shown of a variable.
+//! What is told of a variable.
 use rust_value::Val;
 
-/// What is shown of a variable.
-#[derive(Clone, Copy, Debug, PartialEq, Eq)]
+/// What is told of a variable. The first that holds, in the order `TooLarge`, `Unavailable`, `Value`, `Invalid`.
+#[derive(Debug, Drop)]
 pub enum Outcome {
-    /// A byte that is needed is missing.
-    Unavailable,
-    /// The bytes are there, and are no image of a value.
-    Invalid,
-    /// The value whose image lies there.
+    /// It has this value.
     Value(Val),
+    /// A byte that is needed is missing, or no place is known.
+    Unavailable,
+    /// All that is needed is there, and no value has this image.
+    Invalid,
+    /// More than 65,536 nodes are reached.
+    TooLarge,
 }

@@ -1,4 +1,6 @@
 pub mod Cutting
-pub mod HexDigits
+pub mod LastDigit
+pub mod DigitWords
 pub mod HexWords
 pub mod Text
+pub mod Loops

@@ -1,39 +1,12 @@
 //! Hexadecimal numbers, each in its one spelling.
-ghost use Rattle.std.specs.Prelude.{◌≡◌, ◌<◌, ◌↔◌, IsTrue, false};
-ghost use Rattle.std.specs.Fmt.{digits, digit_glyph};
-ghost use Rattle.readers.specs.Hex.{hex_of, SpellsHex};
+ghost use Rattle.std.specs.Prelude.{◌≡◌};
+ghost use Rattle.readers.specs.Hex.{hex_of, SpellsHex, wide_hex_of, SpellsWideHex, is_lower_digit, are_lower_digits, is_hex_word, narrow};
 
-/// The digit of a number below 16.
-fn hex_digit(n: u64) -> u8
-    requires { n < 16 }
-    ensures { result ≡ digit_glyph false n }
-{
-    if n < 10 {
-        b'0' + n as u8
-    } else {
-        b'a' + (n - 10) as u8
-    }
-}
-
-/// Whether these are the digits of the number, without leading zeros.
-fn are_hex_digits(text: &[u8], n: u64) -> bool
-    ensures { IsTrue result ↔ (text.now ≡ digits 16 false n) }
-{
-    let Some((last, front)) = text.split_last() else {
-        return false;
-    };
-    if *last != hex_digit(n % 16) {
-        false
-    } else if n < 16 {
-        front.is_empty()
-    } else {
-        are_hex_digits(front, n / 16)
-    }
-}
+use crate::digits::are_digits;
 
 /// The number that the word spells, by its digits, which are then compared with those of the number.
-fn parse_hex(word: &[u8]) -> Option<u64>
-    ensures { SpellsHex word.now result }
+fn parse_hex(word: &[u8]) -> Option<u128>
+    ensures { SpellsWideHex word.now result }
 {
     let Some(digits) = word.strip_prefix(b"0x".as_slice()) else {
         return None;
@@ -41,13 +14,23 @@ fn parse_hex(word: &[u8]) -> Option<u64>
     let Ok(text) = str::from_utf8(digits) else {
         return None;
     };
-    let Ok(n) = u64::from_str_radix(text, 16) else {
+    let Ok(n) = u128::from_str_radix(text, 16) else {
         return None;
     };
-    if are_hex_digits(digits, n) {
+    if are_digits(digits, n, 16) {
         Some(n)
     } else {
         None
+    }
+}
+
+/// The number of at most 64 bits.
+fn narrow(n: Option<u128>) -> Option<u64>
+    ensures { result ≡ narrow n }
+{
+    match n {
+        Some(n) if n < 1 << 64 => Some(n as u64),
+        _ => None,
     }
 }
 
@@ -57,5 +40,41 @@ pub fn read_hex(word: &[u8]) -> Option<u64>
     ensures spelled { SpellsHex word.now result }
     ensures exact { result ≡ hex_of word.now }
 {
+    narrow(parse_hex(word))
+}
+
+/// The same of numbers below 2^128.
+pub fn read_wide_hex(word: &[u8]) -> Option<u128>
+    ensures spelled { SpellsWideHex word.now result }
+    ensures exact { result ≡ wide_hex_of word.now }
+{
     parse_hex(word)
+}
+
+fn is_lower_digit(c: u8) -> bool
+    ensures { result ≡ is_lower_digit c }
+{
+    matches!(c, b'0'..=b'9' | b'a'..=b'f')
+}
+
+#[tactic(auto, using(crate::proofs::Loops::drop_step))]
+fn are_lower_digits(digits: &[u8]) -> bool
+    ensures { result ≡ are_lower_digits digits.now }
+{
+    for c in digits {
+        if !is_lower_digit(*c) {
+            return false;
+        }
+    }
+    true
+}
+
+/// Whether the word spells a number of any size, as `read_hex` wants it. Takes no memory.
+pub fn is_hex_word(word: &[u8]) -> bool
+    ensures { result ≡ is_hex_word word.now }
+{
+    let Some(digits) = word.strip_prefix(b"0x".as_slice()) else {
+        return false;
+    };
+    !digits.is_empty() && (digits.len() == 1 || digits[0] != b'0') && are_lower_digits(digits)
 }

@@ -1,5 +1,5 @@
 //! Words and numbers as files have them.
-use crate::{cut_line, one_word, read_hex, three_words, two_words};
+use crate::{cut_line, one_word, read_decimal, read_hex, three_words, two_words};
 use std::test::Fail;
 
 /// Each word with the number that it spells, or none.
@@ -18,10 +18,25 @@ const WORDS: [(&[u8], Option<u64>); 12] = [
     (b"0x1 ", None),
 ];
 
+/// The same of decimal numbers.
+const DECIMAL_WORDS: [(&[u8], Option<u128>); 8] = [
+    (b"0", Some(0)),
+    (b"1024", Some(1024)),
+    (b"340282366920938463463374607431768211455", Some(u128::MAX)),
+    (b"340282366920938463463374607431768211456", None),
+    (b"00", None),
+    (b"+1", None),
+    (b"-0", None),
+    (b"", None),
+];
+
 #[test]
 fn a_number_has_one_spelling(rt: HostRuntime) -> Result<(), Fail> {
     for (word, number) in WORDS.iter() {
         assert!(rt; read_hex(word) == *number);
+    }
+    for (word, number) in DECIMAL_WORDS.iter() {
+        assert!(rt; read_decimal(word) == *number);
     }
     Ok(())
 }

@@ -1,2 +1,3 @@
 pub mod Nodes
 pub mod Texts
+pub mod Utf8

@@ -1,11 +1,15 @@
-//! Values of Rust types, and their text.
+//! Values of Rust types, their text, and how many nodes they have.
 #![tactic(auto)]
 
+mod counting;
+mod pointers;
 mod printing;
+mod scalars;
 mod value;
 
+pub use counting::nodes;
 pub use printing::text;
-pub use value::{Val, nodes};
+pub use value::{Part, Val};
 
 #[cfg(test)]
 mod tests;

@@ -1,9 +1,20 @@
 //! Values.
-ghost use Rattle.std.specs.Prelude.{◌≡◌, ◌-◌, ◌^◌, min};
-ghost use Rattle.rust_value.specs.Nodes.{nodes_of};
+use rv_io::{Boxed, List, Text};
+use type_names::{PtrKind, Word};
 
-/// The value of a primitive type.
-#[derive(Clone, Copy, Debug, PartialEq, Eq)]
+/// A value under the name of a field.
+#[cycle(value)]
+#[derive(Debug, Drop)]
+pub struct Part {
+    /// What the field is called.
+    pub name: Word,
+    /// What it holds.
+    pub val: Val,
+}
+
+/// The value of a type.
+#[cycle(value)]
+#[derive(Debug, Drop)]
 pub enum Val {
     /// `()`
     Unit,
@@ -15,19 +26,23 @@ pub enum Val {
     Float32(u32),
     /// The bits of an `f64`.
     Float64(u64),
-}
-
-/// How many nodes the value has. Stands still at 2^64 - 1. Takes no memory.
-pub fn nodes(val: &Val) -> u64
-    ensures { result ≡ min (nodes_of val.now) (2 ^ 64 - 1) }
-{
-    match val {
-        Val::Unit
-        | Val::Bool(_)
-        | Val::Char(_)
-        | Val::Unsigned(_)
-        | Val::Signed(_)
-        | Val::Float32(_)
-        | Val::Float64(_) => 1,
-    }
+    /// A struct, tuple or closure: its fields in order.
+    Fields(List<Part>),
+    /// A variant of an enum: its name, and its fields in order.
+    Variant(Word, List<Part>),
+    /// An array, or what a slice leads to: its true length, and the elements that are shown, from the first on.
+    Seq(u64, List<Val>),
+    /// A pointer of one word: its kind, its address, and what it leads to, where that is shown.
+    Pointer(PtrKind, u64, Option<Boxed<Val>>),
+    /// A pointer to a slice: its kind, its address, its length in elements, and a `Seq` of what it leads to, where that is
+    /// shown.
+    Slice(PtrKind, u64, u64, Option<Boxed<Val>>),
+    /// A pointer to a text: its kind, its address, its length in bytes, and the text, where that is shown.
+    Str(PtrKind, u64, u64, Option<Text>),
+    /// A pointer to a trait object: its kind, its address, and the address of its vtable.
+    Dyn(PtrKind, u64, u64),
+    /// A pointer to the function at an address.
+    Function(u64),
+    /// Bytes of a type that is not told.
+    Bytes(Text),
 }

@@ -9,5 +9,6 @@ pub mod Canonical
 pub mod Segments
 pub mod Plain
 pub mod ReadLines
+pub mod RegisterLists
 pub mod ReadFiles
 pub mod SpelledFiles

@@ -1,5 +1,5 @@
 -- Words of plain bytes: ASCII, without a space and without an LF.
-use Rattle.std.proofs.Common.{◌≡◌, ◌≢◌, ap, ℕ, zero, suc, ◌<◌, ◌^◌, Bool, true, false, List, [], ◌∷◌, ◌++◌, arith, lit<, Ok, nat_lt, ◌&&◌}
+use Rattle.std.proofs.Common.{◌≡◌, ◌≤◌, lit≤, refl, ◌≢◌, ap, ℕ, zero, suc, ◌<◌, ◌^◌, Bool, true, false, List, [], ◌∷◌, ◌++◌, arith, lit<, Ok, nat_lt, ◌&&◌}
 use Rattle.std.proofs.lemmas.Bool.{and_parts, ltb-true}
 use Rattle.std.specs.List.{AllPass}
 use Rattle.std.specs.Str.{IsAscii, is_utf8}
@@ -10,9 +10,12 @@ use Rattle.std.proofs.lemmas.Str.{IsUtf8-from_ascii, is_utf8-from_IsUtf8, IsAsci
 use Rattle.std.proofs.lemmas.List.Elements.{All-nil, All-cons, All-head, All-tail, All-append}
 use Rattle.hex.specs.Hex.{decode_of, is_hex_digit}
 use Rattle.hex.proofs.HexLemmas.{decode_of-ok}
+use Rattle.snapshot_file.specs.declared.registers.Reg.{Reg}
+use Rattle.snapshot_file.specs.declared.registers.Reg.TheVariants as regs
+use Rattle.snapshot_file.specs.Registers.{name_of}
 use Rattle.readers.specs.Lines.{Lacks}
 use Rattle.readers.specs.Hex.{hex_text}
-use Rattle.readers.proofs.HexWords.{numeral}
+use Rattle.readers.proofs.HexWords.{wide_numeral}
 
 -- the byte is ASCII, and neither a space nor an LF
 abbrev pub IsPlain : ℕ → Type 0
@@ -63,8 +66,11 @@ plain_digits [] h = tt
 plain_digits (c ∷ ds) h = (plain_digit c h.0, plain_digits ds h.1)
 
 -- a spelled number is plain
+pub plain_wide : (n : ℕ) → n < 2 ^ 128 → ArePlain (hex_text n)
+plain_wide n l = ((lit< tt, λ e. omega arith, λ e. omega arith), ((lit< tt, λ e. omega arith, λ e. omega arith), plain_digits (digits 16 false n) (wide_numeral n l).0.1))
+
 pub plain_hex : (n : ℕ) → n < 2 ^ 64 → ArePlain (hex_text n)
-plain_hex n l = ((lit< tt, λ e. omega arith, λ e. omega arith), ((lit< tt, λ e. omega arith, λ e. omega arith), plain_digits (digits 16 false n) (numeral n l).0.1))
+plain_hex n l = let wide : 2 ^ 64 ≤ 2 ^ 128 = lit≤ tt in plain_wide n (omega arith)
 
 plain_pair : (c : ℕ) → is_hex_digit c ≡ true → IsPlain c
 plain_pair c h = (grind arith, λ e. let same = ap is_hex_digit e in cc, λ e. let same = ap is_hex_digit e in cc)
@@ -94,3 +100,41 @@ lacks_append c xs ys h k = All-append (λ b. b ≢ c) xs ys h k
 -- a space and a plain word behind a line without an LF
 pub lf_more : (front word : List ℕ) → Lacks 10 front → Lacks 10 word → Lacks 10 (front ++ 32 ∷ word)
 lf_more front word h k = lacks_append 10 front (32 ∷ word) h (All-cons (λ b. b ≢ 10) 32 word (λ e. omega arith) k)
+
+name_test : (reg : Reg) → are_plain (name_of reg) ≡ true
+name_test regs.Rax = refl
+name_test regs.Rdx = refl
+name_test regs.Rcx = refl
+name_test regs.Rbx = refl
+name_test regs.Rsi = refl
+name_test regs.Rdi = refl
+name_test regs.Rbp = refl
+name_test regs.Rsp = refl
+name_test regs.R8 = refl
+name_test regs.R9 = refl
+name_test regs.R10 = refl
+name_test regs.R11 = refl
+name_test regs.R12 = refl
+name_test regs.R13 = refl
+name_test regs.R14 = refl
+name_test regs.R15 = refl
+name_test regs.Xmm0 = refl
+name_test regs.Xmm1 = refl
+name_test regs.Xmm2 = refl
+name_test regs.Xmm3 = refl
+name_test regs.Xmm4 = refl
+name_test regs.Xmm5 = refl
+name_test regs.Xmm6 = refl
+name_test regs.Xmm7 = refl
+name_test regs.Xmm8 = refl
+name_test regs.Xmm9 = refl
+name_test regs.Xmm10 = refl
+name_test regs.Xmm11 = refl
+name_test regs.Xmm12 = refl
+name_test regs.Xmm13 = refl
+name_test regs.Xmm14 = refl
+name_test regs.Xmm15 = refl
+
+-- a register's name is plain
+pub plain_name : (reg : Reg) → ArePlain (name_of reg)
+plain_name reg = plain_by_test (name_of reg) (name_test reg)

@@ -1,4 +1,5 @@
 pub mod Memory
+pub mod Registers
 pub mod Spans
 pub mod Reading
 pub mod Snapshots

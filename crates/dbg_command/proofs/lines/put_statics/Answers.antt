@@ -9,7 +9,7 @@ pub loop-item-preserved : goal.loop-item-preserved
 loop-item-preserved c =
     more_lines c.args.statics.now c.args.mem.now c.loop-item.item-index c.item-item.result c.read_value-outcome.result c.args.out.now c.loop-item.out c.put_static.new.out
     (drop_step c.args.statics.now c.loop-item.item-index c.item-item.result c.loop-item-test.true c.item-item.is)
-    c.loop-item.invariant c.read_value-outcome.ensures c.in_ok-put_static.ensures
+    c.loop-item.invariant c.read_value-outcome.ensures.outcome c.in_ok-put_static.ensures
 
 pub returns : goal.returns
 returns c = all_lines c.args.statics.now c.args.mem.now c.loop-item.item-index c.args.out.now c.loop-item.out c.loop-item-test.false c.loop-item.invariant

@@ -1,0 +1,4 @@
+pub mod Chunks
+pub mod Ranges
+pub mod PlaceNumbers
+pub mod OneChunk

@@ -1,0 +1,6 @@
+use Rattle.layout_model.specs.Laws.{laws}
+use Rattle.layout_model.proofs.Firsts.{checks_say}
+use Rattle.layout_model.proofs.checks.check.Goals as goal
+
+pub returns : goal.returns
+returns c = checks_say c.args.set.now (laws c.args.set.now) c.check_laws.result c.check_laws.ensures

@@ -1,0 +1,10 @@
+use Rattle.std.proofs.Common.{eqb, None}
+use Rattle.std.proofs.lemmas.Bool.Decides.{Decides-eqb}
+use Rattle.layout_model.specs.Law3.{Law3}
+use Rattle.layout_model.proofs.Firsts.{one_law}
+use Rattle.layout_model.proofs.extents.law_3.Goals as goal
+
+pub returns : goal.returns
+returns c =
+    let set = c.args.set.now in
+    rw c.breach.ensures (one_law set 3 (Law3 set) (eqb set.target.ptr 8) c.first_3.result None (Decides-eqb set.target.ptr 8) (rw c.as_slice.ensures at c.first_3.ensures) (λ i _. tt))

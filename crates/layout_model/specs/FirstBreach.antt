@@ -1,0 +1,83 @@
+-- The lowest law that fails, and its first item.
+use Rattle.std.specs.Prelude.{zero, suc, ◌≡◌, ℕ, ◌-◌, ◌^◌, ◌<◌, min, List, [], ◌∷◌, length, Result, Ok, Err}
+use Rattle.layout_model.specs.declared.breach.Item.{Item}
+use Rattle.layout_model.specs.declared.breach.Item.TheVariants.{Whole, Def, Static}
+use Rattle.layout_model.specs.declared.breach.CheckErr.{CheckErr}
+use Rattle.layout_model.specs.declared.breach.CheckErr.TheVariants.{Breach, Memory}
+use Rattle.layout_model.specs.declared.set.Set.{Set}
+
+-- the items of a set: the whole, its types and its statics
+abbrev pub IsItem : Set → Item → Type 0
+IsItem set Whole = Unit {0}
+IsItem set (Def i) = i < length set.types
+IsItem set (Static i) = i < length set.statics
+
+-- the order of items: the whole, then types, then statics, each by place
+abbrev pub Precedes : Item → Item → Type 0
+Precedes Whole Whole = ⊥
+Precedes Whole (Def j) = Unit {0}
+Precedes Whole (Static j) = Unit {0}
+Precedes (Def i) Whole = ⊥
+Precedes (Def i) (Def j) = i < j
+Precedes (Def i) (Static j) = Unit {0}
+Precedes (Static i) Whole = ⊥
+Precedes (Static i) (Def j) = ⊥
+Precedes (Static i) (Static j) = i < j
+
+-- a law says something of each item
+abbrev pub Law : Type 1
+Law = Item → Type 0
+
+-- a law with the number that it is known by
+pub record Numbered : Type 1 where
+  pub number : ℕ
+  pub law : Law
+
+-- the law is true of each item
+abbrev pub Holds : Set → Law → Type 0
+Holds set law = (x : Item) → IsItem set x → law x
+
+-- this is the first item of which the law is false
+pub record Fails (set : Set) (law : Law) (at : Item) : Type 0 where
+  pub is : IsItem set at
+  pub broken : ¬ (law at)
+  pub earlier : (x : Item) → IsItem set x → Precedes x at → law x
+
+-- an item as an answer names it: a place past the end of its type stands at that end
+abbrev pub named : Item → Item
+named Whole = Whole
+named (Def i) = Def (min i (2 ^ 32 - 1))
+named (Static i) = Static (min i (2 ^ 32 - 1))
+
+-- the law fails, and its first item is named so
+abbrev pub FailsAt : Set → Law → Item → Type 0
+FailsAt set law at = (x : Item) × (Fails set law x × (at ≡ named x))
+
+-- the law at a place of a row; past the end one that says nothing
+abbrev pub law_at : ℕ → List Numbered → Law
+law_at n [] = λ _. Unit {0}
+law_at zero (l ∷ laws) = l.law
+law_at (suc n) (l ∷ laws) = law_at n laws
+
+-- the number of the law at a place of a row
+abbrev pub number_at : ℕ → List Numbered → ℕ
+number_at n [] = 0
+number_at zero (l ∷ laws) = l.number
+number_at (suc n) (l ∷ laws) = number_at n laws
+
+-- of a row of laws all before this one hold, and this one fails first at this item
+pub record IsFirstBreach (set : Set) (laws : List Numbered) (law : ℕ) (at : Item) : Type 0 where
+  pub place : ℕ
+  pub numbered : law ≡ number_at place laws
+  pub lower : (j : ℕ) → j < place → Holds set (law_at j laws)
+  pub fails : FailsAt set (law_at place laws) at
+
+-- all laws of the row hold
+abbrev pub AllHold : Set → List Numbered → Type 0
+AllHold set laws = (j : ℕ) → Holds set (law_at j laws)
+
+-- what a check of these laws answers: nothing where all hold, else the first breach
+abbrev pub Checked : Set → List Numbered → Result (Unit {0}) CheckErr → Type 0
+Checked set laws (Ok t) = AllHold set laws
+Checked set laws (Err (Breach law at)) = IsFirstBreach set laws law at
+Checked set laws (Err Memory) = Unit {0}

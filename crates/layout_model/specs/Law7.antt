@@ -1,0 +1,25 @@
+-- Law 7: fields of size at least 1 don't overlap, and elements of arrays have a size of at least 1.
+use Rattle.std.specs.Prelude.{ℕ, ◌<◌, List}
+use Rattle.std.specs.List.{All, HoldsAt}
+use Rattle.layout_model.specs.declared.breach.Item.TheVariants.{Whole, Def, Static}
+use Rattle.layout_model.specs.declared.set.Set.{Set}
+use Rattle.layout_model.specs.declared.set.Variant.{Variant}
+use Rattle.layout_model.specs.declared.set.TypeDef.{TypeDef}
+use Rattle.layout_model.specs.declared.set.TypeDef.TheVariants.{Struct, Array, Enum}
+use Rattle.layout_model.specs.FirstBreach.{Law}
+use Rattle.layout_model.specs.Overlap.{AreApart, spans_of}
+use Rattle.layout_model.specs.Sizes.{size}
+
+abbrev pub VariantsApart : List TypeDef → List Variant → Type 0
+VariantsApart types variants = All (λ v. AreApart (spans_of types v.fields)) variants
+
+unfoldable pub HasPartsApart : List TypeDef → TypeDef → Type 0
+HasPartsApart types (Struct name size align params fields) = AreApart (spans_of types fields)
+HasPartsApart types (Array elem count) = 0 < size types elem
+HasPartsApart types (Enum name size align params tag variants) = VariantsApart types variants
+HasPartsApart types _ = Unit {0}
+
+abbrev pub Law7 : Set → Law
+Law7 set Whole = Unit {0}
+Law7 set (Def i) = HoldsAt (HasPartsApart set.types) set.types i
+Law7 set (Static i) = Unit {0}

@@ -1,0 +1,82 @@
+-- Whether a tag lies on a leaf whose numbers a span holds, by levels. Private: `Honest` says what it means.
+use Rattle.std.specs.Prelude.{ℕ, zero, suc, ◌+◌, ◌-◌, ◌^◌, ◌==◌, nat_le, nat_lt, Bool, true, false, ◌&&◌, ◌||◌, if◌then◌else◌, List, [], ◌∷◌, Option, Some, None, slice_get}
+use Rattle.std.specs.List.{list_all}
+use Rattle.layout_model.specs.declared.primitive.Primitive.{Primitive}
+use Rattle.layout_model.specs.declared.primitive.Primitive.TheVariants.{Bool as BoolPrim, Char}
+use Rattle.layout_model.specs.declared.set.Field.{Field}
+use Rattle.layout_model.specs.declared.set.Tag.{Tag}
+use Rattle.layout_model.specs.declared.set.Variant.{Variant}
+use Rattle.layout_model.specs.declared.set.Selector.{Selector}
+use Rattle.layout_model.specs.declared.set.Selector.TheVariants.{Exact, Span, Only}
+use Rattle.layout_model.specs.declared.set.TypeRef.{TypeRef}
+use Rattle.layout_model.specs.declared.set.TypeRef.TheVariants.{Prim, User}
+use Rattle.layout_model.specs.declared.set.TypeDef.{TypeDef}
+use Rattle.layout_model.specs.declared.set.TypeDef.TheVariants.{Struct, Array, Thin, Slice, Str, Dyn, FnPtr, CLike, Enum, Bytes}
+use Rattle.layout_model.specs.declared.honesty.Niche.{Niche}
+use Rattle.layout_model.specs.Honest.{holder, is_owning}
+use Rattle.layout_model.specs.Primitives.{prim_bytes}
+
+abbrev pub in_span : Niche → ℕ → Bool
+in_span niche number = if nat_le niche.first niche.last then nat_le niche.first number && nat_le number niche.last else nat_le niche.first number || nat_le number niche.last
+
+-- whether the span holds all numbers from low to high
+abbrev pub range_lies : Niche → ℕ → ℕ → Bool
+range_lies niche low high = if nat_le niche.first niche.last then nat_le niche.first low && nat_le high niche.last else nat_le niche.first low || (nat_le high niche.last || niche.first == niche.last + 1)
+
+abbrev pub prim_lies : Niche → Primitive → ℕ → Bool
+prim_lies niche BoolPrim off = off == 0 && (niche.width == 1 && range_lies niche 0 1)
+prim_lies niche Char off = off == 0 && (niche.width == 4 && range_lies niche 0 0x10ffff)
+prim_lies niche _ off = false
+
+abbrev pub pointer_lies : Niche → ℕ → Bool
+pointer_lies niche off = off == 0 && (niche.width == 8 && range_lies niche 1 (2 ^ 64 - 1))
+
+abbrev pub field_lies : (TypeRef → ℕ → Bool) → ℕ → Option Field → Bool
+field_lies rest off None = false
+field_lies rest off (Some field) = rest field.ty (off - field.off)
+
+abbrev pub selector_lies : (TypeRef → ℕ → Bool) → List TypeDef → Niche → ℕ → Selector → List Field → Bool
+selector_lies rest types niche off (Exact number) fields = in_span niche number
+selector_lies rest types niche off (Span first last) fields = field_lies rest off (holder types niche.width off fields)
+selector_lies rest types niche off Only fields = true
+
+abbrev pub is_none_left : List Variant → Bool
+is_none_left [] = true
+is_none_left (v ∷ variants) = false
+
+abbrev pub enum_lies : (TypeRef → ℕ → Bool) → List TypeDef → Niche → ℕ → Option Tag → List Variant → Bool
+enum_lies rest types niche off None variants = is_none_left variants
+enum_lies rest types niche off (Some tag) variants = off == tag.off && (niche.width == prim_bytes tag.prim && list_all (λ v. selector_lies rest types niche off v.sel v.fields) variants)
+
+abbrev pub def_lies : (TypeRef → ℕ → Bool) → List TypeDef → Niche → ℕ → TypeDef → Bool
+def_lies rest types niche off (Struct name size align params fields) = field_lies rest off (holder types niche.width off fields)
+def_lies rest types niche off (Thin kind to) = is_owning kind && pointer_lies niche off
+def_lies rest types niche off FnPtr = pointer_lies niche off
+def_lies rest types niche off (Slice name kind ptr) = is_owning kind && pointer_lies niche off
+def_lies rest types niche off (Str name kind ptr) = is_owning kind && pointer_lies niche off
+def_lies rest types niche off (Dyn name kind ptr vtable) = is_owning kind && (pointer_lies niche off || (off == 8 && pointer_lies niche 0))
+def_lies rest types niche off (CLike name tag cases) = off == 0 && (niche.width == prim_bytes tag && list_all (λ c. in_span niche c.number) cases)
+def_lies rest types niche off (Enum name size align params tag variants) = enum_lies rest types niche off tag variants
+def_lies rest types niche off _ = false
+
+abbrev pub def_lies_at : (TypeRef → ℕ → Bool) → List TypeDef → Niche → ℕ → Option TypeDef → Bool
+def_lies_at rest types niche off None = false
+def_lies_at rest types niche off (Some t) = def_lies rest types niche off t
+
+-- through at most so many types in one another
+unfoldable pub lies : ℕ → List TypeDef → Niche → TypeRef → ℕ → Bool
+lies zero types niche ty off = false
+lies (suc most) types niche (Prim prim) off = prim_lies niche prim off
+lies (suc most) types niche (User i) off = def_lies_at (lies most types niche) types niche off (slice_get types i)
+
+abbrev pub honest_selector : List TypeDef → Tag → Selector → List Field → Bool
+honest_selector types tag (Span first last) fields = field_lies (lies 257 types (record { width = prim_bytes tag.prim; first = first; last = last })) tag.off (holder types (prim_bytes tag.prim) tag.off fields)
+honest_selector types tag _ fields = true
+
+abbrev pub honest_variants : List TypeDef → Option Tag → List Variant → Bool
+honest_variants types None variants = true
+honest_variants types (Some tag) variants = list_all (λ v. honest_selector types tag v.sel v.fields) variants
+
+abbrev pub honest_type : List TypeDef → TypeDef → Bool
+honest_type types (Enum name size align params tag variants) = honest_variants types tag variants
+honest_type types _ = true

@@ -1,0 +1,258 @@
+//! Honest sets: each span of numbers is that of a leaf in its variant.
+ghost use Rattle.std.specs.Prelude.{◌≡◌, ◌+◌, ◌<◌, ◌≤◌, ◌^◌, option_copied};
+ghost use Rattle.std.specs.Bool.{Decides};
+ghost use Rattle.std.specs.List.{list_all};
+ghost use Rattle.layout_model.specs.Honest.{holds_bytes, holder, is_owning, IsHonest};
+ghost use Rattle.layout_model.specs.Lies.{in_span, range_lies, prim_lies, pointer_lies, field_lies, selector_lies, enum_lies, def_lies, lies, honest_selector, honest_variants, honest_type};
+ghost use Rattle.layout_model.specs.Laws.{IsLawful};
+ghost use Rattle.layout_model.specs.Sizes.{AreSmall};
+
+use crate::primitive::{Primitive, prim_size};
+use crate::set::{Case, Field, Selector, Set, Tag, TypeDef, TypeRef, Variant};
+use crate::sizes::small_size;
+use type_names::PtrKind;
+
+/// A tag of so many bytes, and the span of numbers that chooses a variant.
+#[derive(Clone, Copy, Debug, PartialEq, Eq)]
+pub(crate) struct Niche {
+    pub(crate) width: u32,
+    pub(crate) first: u128,
+    pub(crate) last: u128,
+}
+
+fn in_span(niche: Niche, number: u128) -> bool
+    ensures { result ≡ in_span niche number }
+{
+    if niche.first <= niche.last {
+        niche.first <= number && number <= niche.last
+    } else {
+        niche.first <= number || number <= niche.last
+    }
+}
+
+/// Whether the span holds all numbers from `low` to `high`.
+fn range_lies(niche: Niche, low: u128, high: u128) -> bool
+    ensures { result ≡ range_lies niche low high }
+{
+    if niche.first <= niche.last {
+        niche.first <= low && high <= niche.last
+    } else {
+        niche.first <= low || high <= niche.last || niche.first == niche.last + 1
+    }
+}
+
+fn prim_lies(niche: Niche, prim: Primitive, off: u32) -> bool
+    ensures { result ≡ prim_lies niche prim off }
+{
+    match prim {
+        Primitive::Bool => off == 0 && niche.width == 1 && range_lies(niche, 0, 1),
+        Primitive::Char => off == 0 && niche.width == 4 && range_lies(niche, 0, 0x10_ffff),
+        _ => false,
+    }
+}
+
+fn pointer_lies(niche: Niche, off: u32) -> bool
+    ensures { result ≡ pointer_lies niche off }
+{
+    off == 0 && niche.width == 8 && range_lies(niche, 1, 0xffff_ffff_ffff_ffff)
+}
+
+fn is_owning(kind: PtrKind) -> bool
+    ensures { result ≡ is_owning kind }
+{
+    matches!(kind, PtrKind::Ref | PtrKind::RefMut | PtrKind::Boxed)
+}
+
+/// Whether the field has all of the bytes.
+fn holds_bytes(types: &[TypeDef], width: u32, off: u32, field: &Field) -> bool
+    requires { AreSmall types.now }
+    ensures { result ≡ holds_bytes types.now width off field.now }
+{
+    let size = u64::from(small_size(types, field.ty));
+    let end = u64::from(off) + u64::from(width);
+    field.off <= off && end <= u64::from(field.off) + size
+}
+
+/// The field that has all of the bytes.
+fn holder<'a>(types: &[TypeDef], width: u32, off: u32, fields: &'a [Field]) -> Option<&'a Field>
+    requires { AreSmall types.now }
+    ensures { option_copied result ≡ holder types.now width off fields.now }
+{
+    for field in fields {
+        if holds_bytes(types, width, off, field) {
+            return Some(field);
+        }
+    }
+    None
+}
+
+fn cases_lie(niche: Niche, cases: &[Case]) -> bool
+    ensures { result ≡ list_all (λ c. in_span niche c.number) cases.now }
+{
+    cases
+        .iter()
+        .all(|case| in_span(niche, u128::from(case.number)))
+}
+
+/// Whether the tag lies on a leaf of the type, through at most so many types in one another, and the
+/// span holds all numbers of the leaf and of the leaves of spans in it.
+#[cycle(lying)]
+#[tactic(auto, unfolding(crate::specs::Lies::lies))]
+fn lies(types: &[TypeDef], niche: Niche, ty: TypeRef, off: u32, most: u32) -> bool
+    requires { AreSmall types.now }
+    ensures { result ≡ lies most types.now niche ty off }
+{
+    if most == 0 {
+        return false;
+    }
+    match ty {
+        TypeRef::Prim(prim) => prim_lies(niche, prim, off),
+        TypeRef::User(i) => match types.get(i as usize) {
+            Some(def) => def_lies(types, niche, def, off, most - 1),
+            None => false,
+        },
+    }
+}
+
+#[cycle(lying)]
+fn def_lies(types: &[TypeDef], niche: Niche, def: &TypeDef, off: u32, most: u32) -> bool
+    requires { AreSmall types.now }
+    ensures { result ≡ def_lies (lies most types.now niche) types.now niche off def.now }
+{
+    match def {
+        TypeDef::Struct { fields, .. } => { fields_lie(types, niche, off, fields.as_slice(), most) }
+        TypeDef::Thin { kind, .. } | TypeDef::Slice { kind, .. } | TypeDef::Str { kind, .. } => {
+            is_owning(*kind) && pointer_lies(niche, off)
+        }
+        TypeDef::FnPtr => pointer_lies(niche, off),
+        TypeDef::Dyn { kind, .. } => {
+            is_owning(*kind) && (pointer_lies(niche, off) || (off == 8 && pointer_lies(niche, 0)))
+        }
+        TypeDef::CLike { tag, cases, .. } => {
+            off == 0 && niche.width == prim_size(*tag) && cases_lie(niche, cases.as_slice())
+        }
+        TypeDef::Enum { tag, variants, .. } => {
+            enum_lies(types, niche, off, *tag, variants.as_slice(), most)
+        }
+        TypeDef::Array { .. } | TypeDef::Bytes { .. } => false,
+    }
+}
+
+#[cycle(lying)]
+fn enum_lies(
+    types: &[TypeDef],
+    niche: Niche,
+    off: u32,
+    tag: Option<Tag>,
+    variants: &[Variant],
+    most: u32,
+) -> bool
+    requires { AreSmall types.now }
+    ensures { result ≡ enum_lies (lies most types.now niche) types.now niche off tag variants.now }
+{
+    match tag {
+        None => variants.is_empty(),
+        Some(tag) => {
+            off == tag.off
+                && niche.width == prim_size(tag.prim)
+                && variants_lie(types, niche, off, variants, most)
+        }
+    }
+}
+
+#[cycle(lying)]
+fn variants_lie(types: &[TypeDef], niche: Niche, off: u32, variants: &[Variant], most: u32) -> bool
+    requires { AreSmall types.now }
+    ensures { result ≡ list_all (λ v. selector_lies (lies most types.now niche) types.now niche off v.sel v.fields) variants.now }
+{
+    for variant in variants {
+        if !variant_lies(types, niche, off, variant, most) {
+            return false;
+        }
+    }
+    true
+}
+
+#[cycle(lying)]
+fn variant_lies(types: &[TypeDef], niche: Niche, off: u32, variant: &Variant, most: u32) -> bool
+    requires { AreSmall types.now }
+    ensures { result ≡ selector_lies (lies most types.now niche) types.now niche off variant.now.sel variant.now.fields }
+{
+    match variant.sel {
+        Selector::Exact(number) => in_span(niche, number),
+        Selector::Span(_, _) => fields_lie(types, niche, off, variant.fields.as_slice(), most),
+        Selector::Only => true,
+    }
+}
+
+#[cycle(lying)]
+fn fields_lie(types: &[TypeDef], niche: Niche, off: u32, fields: &[Field], most: u32) -> bool
+    requires { AreSmall types.now }
+    ensures { result ≡ field_lies (lies most types.now niche) off (holder types.now niche.width off fields.now) }
+{
+    match holder(types, niche.width, off, fields) {
+        Some(field) => lies(types, niche, field.ty, off.saturating_sub(field.off), most),
+        None => false,
+    }
+}
+
+fn is_honest_variant(types: &[TypeDef], tag: Tag, variant: &Variant) -> bool
+    requires { AreSmall types.now }
+    ensures { result ≡ honest_selector types.now tag variant.now.sel variant.now.fields }
+{
+    match variant.sel {
+        Selector::Span(first, last) => {
+            let width = prim_size(tag.prim);
+            let niche = Niche { width, first, last };
+            fields_lie(types, niche, tag.off, variant.fields.as_slice(), 257)
+        }
+        Selector::Exact(_) | Selector::Only => true,
+    }
+}
+
+fn are_honest_variants(types: &[TypeDef], tag: Tag, variants: &[Variant]) -> bool
+    requires { AreSmall types.now }
+    ensures { result ≡ list_all (λ v. honest_selector types.now tag v.sel v.fields) variants.now }
+{
+    for variant in variants {
+        if !is_honest_variant(types, tag, variant) {
+            return false;
+        }
+    }
+    true
+}
+
+fn is_honest_type(types: &[TypeDef], def: &TypeDef) -> bool
+    requires { AreSmall types.now }
+    ensures { result ≡ honest_type types.now def.now }
+{
+    match def {
+        TypeDef::Enum {
+            tag: Some(tag),
+            variants,
+            ..
+        } => are_honest_variants(types, *tag, variants.as_slice()),
+        _ => true,
+    }
+}
+
+fn are_honest(types: &[TypeDef]) -> bool
+    requires { AreSmall types.now }
+    ensures { result ≡ list_all (honest_type types.now) types.now }
+{
+    for def in types {
+        if !is_honest_type(types, def) {
+            return false;
+        }
+    }
+    true
+}
+
+/// Whether the set is honest: each variant that a span of numbers chooses has its tag on a leaf
+/// of its fields, all of whose numbers are in the span. Takes no memory.
+pub fn is_honest(set: &Set) -> bool
+    requires { IsLawful set.now }
+    ensures { Decides result (IsHonest set.now) }
+{
+    are_honest(set.types.as_slice())
+}

@@ -1,0 +1,16 @@
+use Rattle.std.proofs.Common.{◌≡◌, ◌++◌, map, take, codes}
+use Rattle.type_names.specs.RustText.{joined}
+use Rattle.rust_value.specs.Texts.{text_of, shown_part, named_text}
+use Rattle.rust_value.proofs.printing.+printing.Given as goal
+
+-- the parts so far are put, without their names
+abbrev pub invariant-put_unnamed-loop-i : goal.invariant-put_unnamed-loop-i
+invariant-put_unnamed-loop-i l = l.out ≡ l.initial.out ++ joined (codes ", ") (map (λ part. (shown_part part).1) (take l.i l.parts))
+
+-- the parts so far are put
+abbrev pub invariant-put_named-loop-i : goal.invariant-put_named-loop-i
+invariant-put_named-loop-i l = l.out ≡ l.initial.out ++ joined (codes ", ") (map (λ part. named_text (shown_part part)) (take l.i l.parts))
+
+-- the values so far are put
+abbrev pub invariant-put_values-loop-i : goal.invariant-put_values-loop-i
+invariant-put_values-loop-i l = l.out ≡ l.initial.out ++ joined (codes ", ") (map text_of (take l.i l.values))

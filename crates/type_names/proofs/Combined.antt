@@ -1,0 +1,89 @@
+-- Readers put together, where each part begins as the one before it asks.
+use Rattle.std.proofs.Common.{◌≡◌, ◌≢◌, ℕ, zero, suc, ◌<◌, ◌≤◌, ◌^◌, Bool, true, false, ◌==◌, ◌&&◌, ◌||◌, if◌then◌else◌, List, [], ◌∷◌, ◌++◌, length, Option, Some, None, ◌⊎◌, inl, inr, refl, sym, ap, subst, ◌∙◌, arith, append_assoc, append-nil}
+use Rattle.std.specs.Fmt.{decimal}
+use Rattle.type_names.specs.Joined.{IsJoined}
+use Rattle.type_names.specs.Words.{lead_of, is_digit, AreChars, IsWord}
+use Rattle.type_names.specs.Reading.{Res, got, bad, Reader, begins, tail, give, never, bind, on, either, where_first, literal, many, word, number, number_at, starts_word, starts_digit}
+use Rattle.type_names.proofs.Readers.{IsReader, Right, Viable, Inhabited, Any, bind_reader, on_reader, where_reader, literal_spells, literal_some}
+use Rattle.type_names.proofs.Lists.{many_some}
+use Rattle.type_names.proofs.Words.{NoChar}
+use Rattle.type_names.proofs.Decimals.{NoDigit, number_reader}
+use Rattle.type_names.proofs.Starts.{Starts}
+
+abbrev pub Not : ℕ → List ℕ → Type 0
+Not b l = begins b l ≡ false
+
+abbrev pub NoWord : List ℕ → Type 0
+NoWord l = starts_word l ≡ false
+
+pub starts_then : {A B : Type 0} {H StopsA StopsB : List ℕ → Type 0} (R : Reader A) (f : A → Reader B) → Starts H StopsA R → ((a : A) → Starts StopsA StopsB (f a)) → Starts H StopsB (bind R f)
+starts_then {B = B} {H = H} {StopsB = Stops} R f h g = record { at = each }
+  where
+    each : (w : B) (t k : List ℕ) → (bind R f).Spells w t → Stops k → H (t ++ k)
+    each w t k (a, (p, (q, (x, (y, e))))) stops = subst H (sym (ap (λ l. l ++ k) e ∙ append_assoc p q k)) (h.at a p (q ++ k) x ((g a).at w q k y stops))
+
+pub starts_many : {A : Type 0} {H Stops : List ℕ → Type 0} (item : Reader A) (b : ℕ) (bs : List ℕ) → Starts H Stops item → ((m : List ℕ) → Stops (b ∷ m)) → Starts H Stops (many item b bs)
+starts_many {A = A} {H = H} {Stops = Stops} item b bs h between = record { at = λ vs t k e stops. each vs t k e.0 e.1 stops }
+  where
+    each : (vs : List A) (t k : List ℕ) → vs ≢ [] → IsJoined item.Spells (b ∷ bs) vs t → Stops k → H (t ++ k)
+    each [] t k ne x stops = absurd (ne refl)
+    each (v ∷ []) t k ne x stops = h.at v t k x stops
+    each (v ∷ w ∷ ws) t k ne (a, (r, (x, (y, e)))) stops =
+        subst H (sym (ap (λ l. l ++ k) e ∙ append_assoc a ((b ∷ bs) ++ r) k)) (h.at v a (b ∷ ((bs ++ r) ++ k)) x (between ((bs ++ r) ++ k)))
+
+pub then_reader : {A B : Type 0} {StopsA StopsB : List ℕ → Type 0} (R : Reader A) (f : A → Reader B) → IsReader StopsA R → ((a : A) → IsReader StopsB (f a)) → ((a : A) → Inhabited (f a)) → ((a : A) → Starts StopsA StopsB (f a)) → IsReader StopsB (bind R f)
+then_reader R f is next some follow = bind_reader R f is (λ a p h. next a) (λ a p h. some a) (λ a p h. (follow a).at)
+
+pub then_some : {A B : Type 0} (R : Reader A) (f : A → Reader B) → Inhabited R → ((a : A) → Inhabited (f a)) → Inhabited (bind R f)
+then_some R f some next =
+    let more = next some.0 in (more.0, (some.1.0 ++ more.1.0, (some.0, (some.1.0, (more.1.0, (some.1.1, (more.1.1, refl)))))))
+
+pub give_some : {A : Type 0} (v : A) → Inhabited (give v)
+give_some v = (v, ([], (refl, refl)))
+
+pub choice_reader : {A : Type 0} {Stops : List ℕ → Type 0} (flag : Bool) (b : ℕ) (R R' : Reader A) → (flag ≡ true → IsReader Stops R) → (flag ≡ true → Inhabited R) → IsReader Stops R' → (flag ≡ true → Starts (Not b) Stops R') → IsReader Stops (on flag b R R')
+choice_reader flag b R R' is some is' other = on_reader flag b R R' is some is' (λ f. (other f).at)
+
+pub choice_some : {A : Type 0} (b : ℕ) (R R' : Reader A) → Inhabited R → Inhabited (on true b R R')
+choice_some b R R' some = (some.0, (b ∷ some.1.0, inl (refl, (some.1.0, (some.1.1, refl)))))
+
+pub choice_other : {A : Type 0} (flag : Bool) (b : ℕ) (R R' : Reader A) → Inhabited R' → Inhabited (on flag b R R')
+choice_other flag b R R' some = (some.0, (some.1.0, inr some.1.1))
+
+pub either_some : {A : Type 0} (flag : Bool) (R R' : Reader A) → Inhabited R → Inhabited R' → Inhabited (either flag R R')
+either_some true R R' x y = (x.0, (x.1.0, inl (refl, x.1.1)))
+either_some false R R' x y = (y.0, (y.1.0, inr (refl, y.1.1)))
+
+pub where_some : {A : Type 0} (test : List ℕ → Bool) (R R' : Reader A) → Inhabited R → Inhabited (where_first test R R')
+where_some test R R' x = (x.0, (x.1.0, inl x.1.1))
+
+word_first : (c : ℕ) (k r p : List ℕ) → starts_word (p ++ c ∷ k) ≡ starts_word (p ++ c ∷ r)
+word_first c k r [] = refl
+word_first c k r (a ∷ p) = refl
+
+digit_first : (c : ℕ) (k r p : List ℕ) → starts_digit (p ++ c ∷ k) ≡ starts_digit (p ++ c ∷ r)
+digit_first c k r [] = refl
+digit_first c k r (a ∷ p) = refl
+
+pub at_word : {A : Type 0} {Stops : List ℕ → Type 0} (R R' : Reader A) → IsReader Stops R → IsReader Stops R' → Starts (λ l. starts_word l ≡ true) Stops R → Starts NoWord Stops R' → IsReader Stops (where_first starts_word R R')
+at_word R R' is is' holds fails = where_reader starts_word R R' word_first is is' holds.at fails.at
+
+pub at_digit : {A : Type 0} {Stops : List ℕ → Type 0} (R R' : Reader A) → IsReader Stops R → IsReader Stops R' → Starts (λ l. starts_digit l ≡ true) Stops R → Starts (λ l. starts_digit l ≡ false) Stops R' → IsReader Stops (where_first starts_digit R R')
+at_digit R R' is is' holds fails = where_reader starts_digit R R' digit_first is is' holds.at fails.at
+
+pub a_word : Inhabited word
+unfolding AreChars
+a_word = (97 ∷ [], (97 ∷ [], ((refl, omega arith), refl)))
+
+-- a decimal begins with a digit
+pub starts_number : {H Stops : List ℕ → Type 0} (zeroed : Bool) (most : ℕ) → 9 ≤ most → most < 10 ^ 64 → ((c : ℕ) (m : List ℕ) → is_digit c ≡ true → H (c ∷ m)) → Starts H Stops (number zeroed most)
+unfolding number_at
+starts_number {H = H} zeroed most wide bounded h = record { at = λ n t k e stops. each n t k (sym (ap (number_at zeroed most) (append-nil t)) ∙ (number_reader zeroed most wide bounded).complete n t [] e tt) }
+  where
+    digit : (n c : ℕ) (x y : Res ℕ) (s : List ℕ) (z : Bool) → (if z then x else bad s) ≡ got n [] → z ≡ true
+    digit n c x y s true e = refl
+    digit n c x y s false e = cc
+
+    each : (n : ℕ) (t k : List ℕ) → number_at zeroed most t ≡ got n [] → H (t ++ k)
+    each n [] k e = cc
+    each n (c ∷ t) k e = h c (t ++ k) (digit n c _ (bad t) (c ∷ t) (is_digit c) e)

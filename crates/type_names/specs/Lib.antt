@@ -1,0 +1,10 @@
+pub mod Joined
+pub mod Words
+pub mod Names
+pub mod RustText
+pub mod CvText
+pub mod Claims
+pub mod Reading
+pub mod Scan
+pub mod Steps
+pub mod RustGrammar

@@ -1,0 +1,22 @@
+//! Names of Rust types, in the spelling of Rust and in that of CodeView.
+#![tactic(auto)]
+
+mod cv;
+mod error;
+mod name;
+mod put;
+mod read;
+mod rest;
+mod rust;
+mod rust_reader;
+mod word;
+
+pub use cv::cv_spelling;
+pub use error::NameErr;
+pub use name::{Name, PtrKind, Seg};
+pub use read::{one_rust_name, proper_names_have_cv_spellings, read_rust};
+pub use rust::rust_spelling;
+pub use word::Word;
+
+#[cfg(test)]
+mod tests;
