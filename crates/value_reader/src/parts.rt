@@ -1,0 +1,65 @@
+//! Parts of images, and what stands in them, as far as it is there.
+ghost use Rattle.std.specs.Prelude.{◌≡◌, ◌+◌, ◌*◌, ◌^◌, ◌≤◌, ◌<◌, IfSome, IfOk};
+ghost use Rattle.snapshot_file.specs.Memory.{sub, bytes_of};
+ghost use Rattle.layout_model.specs.Contexts.{number_at, tag_number};
+
+use crate::view::Image;
+use layout_model::{Tag, prim_size};
+use rv_io::{Memory, Text};
+use std::alloc::Global;
+
+/// So many items from an offset on, as far as they are there.
+#[tactic(auto, using(crate::proofs::Places::sub_clamped))]
+pub(crate) fn part_at<'a>(image: &Image<'a>, off: u64, len: u32) -> Image<'a>
+    ensures { result ≡ sub image.now off len }
+{
+    let off = off.min(u64::from(image.len())) as u32;
+    image.part(off, len.min(image.len() - off))
+}
+
+/// The little-endian number of so many items from an offset on.
+pub(crate) fn number_at(image: &Image<'_>, off: u32, width: u32) -> Option<u128>
+    requires { width ≤ 16 }
+    ensures value { result ≡ number_at image.now off width }
+    ensures bound { IfSome result (λ n. n < 256 ^ width) }
+{
+    let part = part_at(image, u64::from(off), width);
+    part.number(0, part.len())
+}
+
+/// The number of eight items from an offset on.
+pub(crate) fn word_at(image: &Image<'_>, off: u32) -> Option<u64>
+    ensures { result ≡ number_at image.now off 8 }
+{
+    match number_at(image, off, 8) {
+        None => None,
+        Some(number) => Some(number as u64),
+    }
+}
+
+/// The number of an enum's tag, or 0 where it has none.
+pub(crate) fn tag_number(tag: &Option<Tag>, image: &Image<'_>) -> Option<u128>
+    ensures { result ≡ tag_number tag.now image.now }
+{
+    match tag {
+        None => Some(0),
+        Some(tag) => number_at(image, tag.off, prim_size(tag.prim)),
+    }
+}
+
+/// All bytes; None exactly where one is missing.
+pub(crate) fn bytes_in(alloc: Global, image: &Image<'_>) -> Result<Option<Text>, Memory>
+    ensures { IfOk result (λ bytes. bytes ≡ bytes_of image.now) }
+{
+    if let Some(bytes) = image.whole() {
+        return Ok(Some(Text::from_bytes(alloc, bytes)?));
+    }
+    let mut found = Vec::new(alloc);
+    for i in 0..image.len() {
+        match image.number(i, 1) {
+            None => return Ok(None),
+            Some(byte) => found.push(byte as u8)?,
+        }
+    }
+    Ok(Some(Text::from_vec(found)))
+}
