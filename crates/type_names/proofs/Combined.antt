@@ -1,14 +1,12 @@
 -- Readers put together, where each part begins as the one before it asks.
-use Rattle.std.proofs.Common.{◌≡◌, ◌≢◌, ℕ, zero, suc, ◌<◌, ◌≤◌, ◌^◌, Bool, true, false, ◌==◌, ◌&&◌, ◌||◌, if◌then◌else◌, List, [], ◌∷◌, ◌++◌, length, Option, Some, None, ◌⊎◌, inl, inr, refl, sym, ap, subst, ◌∙◌, arith, append_assoc, append-nil}
-use Rattle.std.specs.Fmt.{decimal}
+use Rattle.std.proofs.Common.{◌≡◌, ◌≢◌, ℕ, ◌<◌, ◌≤◌, ◌^◌, Bool, true, false, ◌==◌, ◌&&◌, ◌||◌, nat_le, if◌then◌else◌, List, [], ◌∷◌, ◌++◌, inl, inr, refl, sym, ap, subst, ◌∙◌, arith, append_assoc, append-nil}
+use Rattle.std.proofs.lemmas.Bool.{eqb-true, eqb-false, leb-true}
 use Rattle.type_names.specs.Joined.{IsJoined}
-use Rattle.type_names.specs.Words.{lead_of, is_digit, AreChars, IsWord}
-use Rattle.type_names.specs.Reading.{Res, got, bad, Reader, begins, tail, give, never, bind, on, either, where_first, literal, many, word, number, number_at, starts_word, starts_digit}
-use Rattle.type_names.proofs.Readers.{IsReader, Right, Viable, Inhabited, Any, bind_reader, on_reader, where_reader, literal_spells, literal_some}
-use Rattle.type_names.proofs.Lists.{many_some}
-use Rattle.type_names.proofs.Words.{NoChar}
-use Rattle.type_names.proofs.Decimals.{NoDigit, number_reader}
-use Rattle.type_names.proofs.Starts.{Starts}
+use Rattle.type_names.specs.Words.{is_digit, AreChars}
+use Rattle.type_names.specs.Reading.{Res, got, bad, Reader, begins, give, bind, on, either, where_first, literal, many, word, number, number_at, starts_word, starts_digit}
+use Rattle.type_names.proofs.Readers.{IsReader, Inhabited, Any, bind_reader, on_reader, where_reader, literal_reader, literal_some}
+use Rattle.type_names.proofs.Decimals.{number_reader}
+use Rattle.type_names.proofs.Starts.{Starts, starts_first, starts_literal}
 
 abbrev pub Not : ℕ → List ℕ → Type 0
 Not b l = begins b l ≡ false
@@ -87,3 +85,44 @@ starts_number {H = H} zeroed most wide bounded h = record { at = λ n t k e stop
     each : (n : ℕ) (t k : List ℕ) → number_at zeroed most t ≡ got n [] → H (t ++ k)
     each n [] k e = cc
     each n (c ∷ t) k e = h c (t ++ k) (digit n c _ (bad t) (c ∷ t) (is_digit c) e)
+
+at_byte : (P : ℕ → Type 0) (c b : ℕ) → P b → ((c ≡ b → ⊥) → P c) → P c
+at_byte P c b h g = each (c == b) refl
+  where
+    each : (z : Bool) → (c == b) ≡ z → P c
+    each true e = subst P (sym (eqb-true c b e)) h
+    each false e = g (eqb-false c b e)
+
+digit_cases : (P : ℕ → Type 0) → P 48 → P 49 → P 50 → P 51 → P 52 → P 53 → P 54 → P 55 → P 56 → P 57 → (c : ℕ) → 48 ≤ c → c ≤ 57 → P c
+digit_cases P a0 a1 a2 a3 a4 a5 a6 a7 a8 a9 c low high =
+    at_byte P c 48 a0 (λ n0. at_byte P c 49 a1 (λ n1. at_byte P c 50 a2 (λ n2. at_byte P c 51 a3 (λ n3. at_byte P c 52 a4
+    (λ n4. at_byte P c 53 a5 (λ n5. at_byte P c 54 a6 (λ n6. at_byte P c 55 a7 (λ n7. at_byte P c 56 a8 (λ n8. at_byte P c 57 a9
+    (λ n9. absurd (omega (arith, n0, n1, n2, n3, n4, n5, n6, n7, n8, n9))))))))))))
+
+-- what begins with a digit begins with no other byte
+pub digit_starts : (c : ℕ) (m : List ℕ) → is_digit c ≡ true → Not 45 (c ∷ m) × (NoWord (c ∷ m) × Not 60 (c ∷ m))
+digit_starts c m h =
+    let p = and_both (nat_le 48 c) (nat_le c 57) h in
+    digit_cases (λ c. Not 45 (c ∷ m) × (NoWord (c ∷ m) × Not 60 (c ∷ m))) (refl, (refl, refl)) (refl, (refl, refl)) (refl, (refl, refl)) (refl, (refl, refl)) (refl, (refl, refl)) (refl, (refl, refl)) (refl, (refl, refl)) (refl, (refl, refl)) (refl, (refl, refl)) (refl, (refl, refl)) c (leb-true 48 c p.0) (leb-true c 57 p.1)
+  where
+    and_both : (a b : Bool) → (a && b) ≡ true → (a ≡ true) × (b ≡ true)
+    and_both true b e = (refl, e)
+    and_both false b e = cc
+
+-- one of some bytes
+pub or_cases : (P : ℕ → Type 0) (b : ℕ) (rest : ℕ → Bool) → P b → ((c : ℕ) → rest c ≡ true → P c) → (c : ℕ) → (c == b || rest c) ≡ true → P c
+or_cases P b rest h g c e = each (c == b) refl e
+  where
+    each : (z : Bool) → (c == b) ≡ z → (z || rest c) ≡ true → P c
+    each true f e = subst P (sym (eqb-true c b f)) h
+    each false f e = g c e
+
+-- a literal, and then a value
+pub behind_literal : {A : Type 0} {Stops : List ℕ → Type 0} (bs : List ℕ) (R : Reader A) → IsReader Stops R → Inhabited R → IsReader Stops (bind (literal bs) (λ _. R))
+behind_literal bs R is some = then_reader (literal bs) (λ _. R) (literal_reader Any bs) (λ u. is) (λ u. some) (λ u. record { at = λ w t k h stops. tt })
+
+pub behind_literal_some : {A : Type 0} (bs : List ℕ) (R : Reader A) → Inhabited R → Inhabited (bind (literal bs) (λ _. R))
+behind_literal_some bs R some = then_some (literal bs) (λ _. R) (literal_some bs) (λ u. some)
+
+pub starts_behind : {A : Type 0} {H Stops : List ℕ → Type 0} (b : ℕ) (bs : List ℕ) (R : Reader A) → ((m : List ℕ) → H (b ∷ m)) → Starts H Stops (bind (literal (b ∷ bs)) (λ _. R))
+starts_behind b bs R h = starts_first (literal (b ∷ bs)) (λ _. R) (starts_literal b bs h)

@@ -2,7 +2,7 @@
 use Rattle.std.proofs.Common.{◌≡◌, ◌∙◌, sym, ap, subst, ℕ, suc, ◌<◌, ◌-◌, ◌==◌, get_or, Bool, List, [], ◌∷◌, ◌++◌, length, map, codes, refl, arith, append_assoc, Result, OnOk, if◌then◌else◌, flat_map}
 use Rattle.std.specs.Fmt.{decimal}
 use Rattle.type_names.specs.declared.name.Name.{Name, fold-roll-Name}
-use Rattle.type_names.specs.declared.name.Name.TheOpen.{Name-F, Seg-F}
+use Rattle.type_names.specs.declared.name.Name.TheOpen.{Name-F}
 use Rattle.type_names.specs.declared.name.Name.TheVariants.{Path, Pointer, Slice, Array, Tuple, Str, Dyn, Fn, Number, Bind, Raw, rolls-Path, rolls-Pointer, rolls-Slice, rolls-Array, rolls-Tuple, rolls-Str, rolls-Dyn, rolls-Fn, rolls-Number, rolls-Bind, rolls-Raw}
 use Rattle.type_names.specs.declared.name.Seg.{Seg, fold-roll-Seg}
 use Rattle.type_names.specs.declared.name.PtrKind.{PtrKind}

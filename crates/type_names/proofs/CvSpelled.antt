@@ -1,15 +1,14 @@
 -- The CodeView text of a proper name is one of its spellings, and only proper names have any.
-use Rattle.std.proofs.Common.{◌≡◌, ◌≢◌, ℕ, zero, suc, ◌<◌, ◌^◌, Bool, List, [], ◌∷◌, ◌++◌, map, Option, IfSome, ◌⊎◌, inl, inr, refl, sym, ap, subst, ◌∙◌, codes}
+use Rattle.std.proofs.Common.{◌≡◌, ℕ, zero, suc, List, [], ◌∷◌, ◌++◌, map, ◌⊎◌, inl, inr, refl, sym, subst, codes}
 use Rattle.std.specs.List.{AllByRecursion}
-use Rattle.std.specs.Fmt.{decimal}
 use Rattle.type_names.specs.Joined.{IsJoined}
 use Rattle.type_names.specs.declared.name.Name.{Name, out-Name}
-use Rattle.type_names.specs.declared.name.Name.TheOpen.{Name-F, Seg-F}
+use Rattle.type_names.specs.declared.name.Name.TheOpen.{Name-F}
 use Rattle.type_names.specs.declared.name.Name.TheVariants.{Path, Pointer, Slice, Array, Tuple, Str, Dyn, Fn, Number, Bind, Raw, outs-Path, outs-Pointer, outs-Slice, outs-Array, outs-Tuple, outs-Str, outs-Dyn, outs-Fn, outs-Number, outs-Bind, outs-Raw}
 use Rattle.type_names.specs.declared.name.Seg.{Seg}
-use Rattle.type_names.specs.Names.{Role, whole, arg, member, IsNoMember, plain_str, IsSeg, IsLayer, Stands}
+use Rattle.type_names.specs.Names.{Role, whole, arg, member, IsNoMember, IsSeg, IsLayer, Stands}
 use Rattle.type_names.specs.RustText.{joined}
-use Rattle.type_names.specs.CvText.{cv_text, cv_seg_text, cv_word_text, cv_args_text, closed, AreCvArgs, CvSeg, CvLayer, CvSpelled}
+use Rattle.type_names.specs.CvText.{cv_text, cv_seg_text, cv_args_text, closed, AreCvArgs, CvSeg, CvLayer, CvSpelled}
 use Rattle.type_names.proofs.Joined.{text_joined}
 use Rattle.type_names.proofs.Depth.{Name-cases}
 use Rattle.type_names.proofs.CvLevels.{cv-Path, cv-Pointer, cv-Slice, cv-Array, cv-Tuple, cv-Str, cv-Dyn, cv-Fn, cv-Number, cv-Bind, cv-Seg}

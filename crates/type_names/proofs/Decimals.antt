@@ -1,11 +1,11 @@
 -- A decimal is read as far as it goes and fits.
-use Rattle.std.proofs.Common.{◌≡◌, ◌≢◌, ℕ, zero, suc, ◌+◌, ◌-◌, ◌*◌, ◌/◌, ◌%◌, ◌^◌, ◌<◌, ◌≤◌, Bool, true, false, ◌==◌, ◌&&◌, nat_le, if◌then◌else◌, List, [], ◌∷◌, ◌++◌, length, ◌⊎◌, inl, inr, refl, sym, ap, subst, ◌∙◌, arith, append_assoc, append-nil, length-append}
+use Rattle.std.proofs.Common.{◌≡◌, ◌≢◌, ℕ, zero, suc, ◌+◌, ◌-◌, ◌*◌, ◌/◌, ◌%◌, ◌^◌, ◌<◌, ◌≤◌, Bool, true, false, ◌==◌, ◌&&◌, nat_le, if◌then◌else◌, List, [], ◌∷◌, ◌++◌, inl, refl, sym, ap, ◌∙◌, arith, append_assoc}
 use Rattle.std.proofs.lemmas.Bool.{leb-true, le-leb, eqb-true, eqb-false}
 use Rattle.std.specs.Fmt.{decimal}
 use Rattle.std.proofs.lemmas.Fmt.{decimal_digit, decimal_step_wide, decimal_by_steps_wide}
 use Rattle.type_names.specs.Words.{is_digit}
 use Rattle.type_names.specs.Reading.{Res, got, bad, digits_after, number_at, number}
-use Rattle.type_names.proofs.Readers.{Suffix, Follows, IsLocal, Viable, Right, IsReader, Inhabited, Suffix-if, Suffix-longer, Follows-if, Follows-got, Follows-bad, Follows-past}
+use Rattle.type_names.proofs.Readers.{Suffix, Follows, IsLocal, Right, IsReader, Inhabited, Suffix-if, Suffix-longer, Follows-if, Follows-got, Follows-bad, Follows-past}
 
 -- no digit stands here
 abbrev pub NoDigit : List ℕ → Type 0

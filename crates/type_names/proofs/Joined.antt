@@ -1,10 +1,9 @@
 -- Joined texts of items that each have one text, and the parts of what readers put together.
-use Rattle.std.proofs.Common.{◌≡◌, ◌≢◌, ℕ, zero, suc, ◌≤◌, Bool, true, false, ◌&&◌, List, [], ◌∷◌, ◌++◌, map, ◌⊎◌, inl, inr, refl, sym, ap, subst, ◌∙◌, append_assoc, append-nil}
-use Rattle.std.specs.List.{AllByRecursion, join_by, flat_map}
-use Rattle.std.specs.Fmt.{decimal}
+use Rattle.std.proofs.Common.{◌≡◌, ℕ, List, [], ◌∷◌, ◌++◌, map, refl, sym, ap, subst, ◌∙◌, append_assoc, append-nil}
+use Rattle.std.specs.List.{AllByRecursion, flat_map}
 use Rattle.type_names.specs.Joined.{IsJoined}
 use Rattle.type_names.specs.RustText.{joined}
-use Rattle.type_names.specs.Reading.{Reader, give, never, bind, on, either, where_first, literal, many, word, number}
+use Rattle.type_names.specs.Reading.{Reader, give, bind, literal}
 use Rattle.type_names.proofs.Readers.{literal_text, literal_spells}
 
 pub joined_cons : (sep a b : List ℕ) (rest : List (List ℕ)) → joined sep (a ∷ b ∷ rest) ≡ a ++ (sep ++ joined sep (b ∷ rest))

@@ -15,3 +15,7 @@ pub mod RustSpelled
 pub mod Scans
 pub mod Whole
 pub mod RustWhole
+mod Closings
+mod CvLaws
+mod CvMeaning
+mod CvWhole

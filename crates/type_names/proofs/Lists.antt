@@ -1,8 +1,8 @@
 -- Lists of items with a separator between each two.
-use Rattle.std.proofs.Common.{◌≡◌, ◌≢◌, ℕ, zero, suc, ◌+◌, ◌<◌, ◌≤◌, Bool, true, false, ◌&&◌, if◌then◌else◌, List, [], ◌∷◌, ◌++◌, length, ◌⊎◌, inl, inr, refl, sym, ap, subst, ◌∙◌, arith, append_assoc, append-nil, length-append}
+use Rattle.std.proofs.Common.{◌≡◌, ◌≢◌, ℕ, zero, suc, ◌+◌, ◌<◌, ◌≤◌, Bool, true, false, if◌then◌else◌, List, [], ◌∷◌, ◌++◌, length, ◌⊎◌, inl, inr, refl, sym, ap, subst, ◌∙◌, arith, append_assoc, append-nil, length-append}
 use Rattle.type_names.specs.Joined.{IsJoined}
-use Rattle.type_names.specs.Reading.{Res, got, bad, and_then, begins, tail, Reader, give, never, bind, on, literal, up_to, many, prepend}
-use Rattle.type_names.proofs.Readers.{Suffix, Follows, IsLocal, Viable, Right, IsReader, Inhabited, suffix_of, Suffix-longer, Suffix-then, Suffix-if, Suffix-tail, Suffix-shorter, begins_is, begins_at, give_reader, never_reader, bind_reader, on_reader, literal_reader, literal_some, literal_text, literal_spells, Any}
+use Rattle.type_names.specs.Reading.{Res, got, bad, and_then, begins, tail, Reader, give, bind, on, literal, up_to, many, prepend}
+use Rattle.type_names.proofs.Readers.{Suffix, Follows, IsLocal, Viable, Right, IsReader, Inhabited, suffix_of, Suffix-shorter, give_reader, bind_reader, on_reader, literal_reader, literal_text, literal_spells, Any}
 
 cons_of : {A : Type 0} (Spells : A → List ℕ → Type 0) (sep : List ℕ) (v : A) (vs : List A) (a b : List ℕ) → vs ≢ [] → Spells v a → IsJoined Spells sep vs b → IsJoined Spells sep (v ∷ vs) (a ++ (sep ++ b))
 cons_of Spells sep v [] a b ne h g = absurd (ne refl)

@@ -1,19 +1,19 @@
 -- The grammar of Rust's spelling is read as a reader owes.
-use Rattle.std.proofs.Common.{◌≡◌, ◌≢◌, ℕ, zero, suc, ◌-◌, ◌^◌, ◌<◌, ◌≤◌, Bool, true, false, ◌==◌, ◌&&◌, ◌||◌, nat_le, nat_lt, if◌then◌else◌, List, [], ◌∷◌, ◌++◌, Option, Some, None, ◌⊎◌, inl, inr, refl, sym, ap, subst, ◌∙◌, arith, codes}
-use Rattle.std.proofs.lemmas.Bool.{eqb-true, eqb-false, leb-true}
+use Rattle.std.proofs.Common.{◌≡◌, ℕ, zero, suc, ◌-◌, ◌^◌, ◌<◌, ◌≤◌, Bool, true, false, ◌==◌, ◌&&◌, ◌||◌, nat_lt, List, [], ◌∷◌, Option, Some, None, inl, inr, refl, sym, ap, subst, arith, codes}
+use Rattle.std.proofs.lemmas.Bool.{eqb-true}
 use Rattle.type_names.specs.declared.name.Name.{Name}
 use Rattle.type_names.specs.declared.name.Name.TheVariants.{Path, Pointer, Slice, Array, Tuple, Str, Dyn, Fn, Number, Bind}
 use Rattle.type_names.specs.declared.name.Seg.{Seg}
 use Rattle.type_names.specs.declared.name.PtrKind.TheVariants.{Ref, RefMut, Const, Mut}
-use Rattle.type_names.specs.Words.{lead_of, is_digit}
-use Rattle.type_names.specs.Reading.{Reader, begins, give, never, bind, on, either, where_first, literal, many, word, number, starts_word, starts_digit}
+use Rattle.type_names.specs.Words.{is_digit}
+use Rattle.type_names.specs.Reading.{Reader, give, never, bind, on, either, where_first, literal, many, word, number, starts_word, starts_digit}
 use Rattle.type_names.specs.RustGrammar.{Level, is_word, is_plain_str, args_of, numbered, seg_behind, seg_of, path_from, path_behind, bracketed, pointed, referred_word, referred, tuple_from, dyn_from, parts_word, parts, result_of, function, numbered_path, worded_of, symbol_of, arg_word, level_of, none_level, within, has_some, fits, rust}
-use Rattle.type_names.proofs.Readers.{Suffix, suffix_of, IsReader, Inhabited, Any, give_reader, never_reader, literal_reader, literal_some, fewer_stops}
+use Rattle.type_names.proofs.Readers.{Suffix, suffix_of, IsReader, Inhabited, Any, give_reader, never_reader, fewer_stops}
 use Rattle.type_names.proofs.Lists.{ListStops, many_reader, many_some}
 use Rattle.type_names.proofs.Words.{NoChar, word_reader}
 use Rattle.type_names.proofs.Decimals.{NoDigit, number_reader, number_some}
-use Rattle.type_names.proofs.Starts.{Starts, starts_give, starts_never, starts_on, starts_either, starts_where, starts_first, starts_both, starts_literal, starts_words, not_word, either_reader}
-use Rattle.type_names.proofs.Combined.{Not, NoWord, starts_then, starts_many, then_reader, then_some, give_some, choice_reader, choice_some, choice_other, either_some, where_some, at_word, at_digit, a_word, starts_number}
+use Rattle.type_names.proofs.Starts.{Starts, starts_give, starts_never, starts_on, starts_either, starts_where, starts_first, starts_both, starts_words, not_word, either_reader}
+use Rattle.type_names.proofs.Combined.{Not, NoWord, starts_then, starts_many, then_reader, then_some, give_some, choice_reader, choice_some, choice_other, either_some, where_some, at_word, at_digit, a_word, starts_number, or_cases, digit_starts, behind_literal, behind_literal_some, starts_behind}
 
 -- a byte that may follow a name
 abbrev pub is_end : ℕ → Bool
@@ -33,35 +33,6 @@ SegStops k = NoChar k × Not 60 k
 
 abbrev pub PathStops : List ℕ → Type 0
 PathStops k = SegStops k × Not 58 k
-
-at_byte : (P : ℕ → Type 0) (c b : ℕ) → P b → ((c ≡ b → ⊥) → P c) → P c
-at_byte P c b h g = each (c == b) refl
-  where
-    each : (z : Bool) → (c == b) ≡ z → P c
-    each true e = subst P (sym (eqb-true c b e)) h
-    each false e = g (eqb-false c b e)
-
-digit_cases : (P : ℕ → Type 0) → P 48 → P 49 → P 50 → P 51 → P 52 → P 53 → P 54 → P 55 → P 56 → P 57 → (c : ℕ) → 48 ≤ c → c ≤ 57 → P c
-digit_cases P a0 a1 a2 a3 a4 a5 a6 a7 a8 a9 c low high =
-    at_byte P c 48 a0 (λ n0. at_byte P c 49 a1 (λ n1. at_byte P c 50 a2 (λ n2. at_byte P c 51 a3 (λ n3. at_byte P c 52 a4
-    (λ n4. at_byte P c 53 a5 (λ n5. at_byte P c 54 a6 (λ n6. at_byte P c 55 a7 (λ n7. at_byte P c 56 a8 (λ n8. at_byte P c 57 a9
-    (λ n9. absurd (omega (arith, n0, n1, n2, n3, n4, n5, n6, n7, n8, n9))))))))))))
-
-digit_starts : (c : ℕ) (m : List ℕ) → is_digit c ≡ true → Not 45 (c ∷ m) × NoWord (c ∷ m)
-digit_starts c m h =
-    let p = and_both (nat_le 48 c) (nat_le c 57) h in
-    digit_cases (λ c. Not 45 (c ∷ m) × NoWord (c ∷ m)) (refl, refl) (refl, refl) (refl, refl) (refl, refl) (refl, refl) (refl, refl) (refl, refl) (refl, refl) (refl, refl) (refl, refl) c (leb-true 48 c p.0) (leb-true c 57 p.1)
-  where
-    and_both : (a b : Bool) → (a && b) ≡ true → (a ≡ true) × (b ≡ true)
-    and_both true b e = (refl, e)
-    and_both false b e = cc
-
-or_cases : (P : ℕ → Type 0) (b : ℕ) (rest : ℕ → Bool) → P b → ((c : ℕ) → rest c ≡ true → P c) → (c : ℕ) → (c == b || rest c) ≡ true → P c
-or_cases P b rest h g c e = each (c == b) refl e
-  where
-    each : (z : Bool) → (c == b) ≡ z → (z || rest c) ≡ true → P c
-    each true f e = subst P (sym (eqb-true c b f)) h
-    each false f e = g c e
 
 end_cases : (P : ℕ → Type 0) → P 44 → P 62 → P 93 → P 59 → P 41 → (c : ℕ) → is_end c ≡ true → P c
 end_cases P comma closing bracket semicolon parenthesis =
@@ -96,16 +67,6 @@ no_char_stop k h = (name_path k h).0.0
 
 no_space : (k : List ℕ) → NameStops k → Not 32 k
 no_space = name_not 32 (λ m. (refl, (refl, (refl, (refl, refl)))))
-
--- a literal, and then a value
-behind_literal : {A : Type 0} {Stops : List ℕ → Type 0} (bs : List ℕ) (R : Reader A) → IsReader Stops R → Inhabited R → IsReader Stops (bind (literal bs) (λ _. R))
-behind_literal bs R is some = then_reader (literal bs) (λ _. R) (literal_reader Any bs) (λ u. is) (λ u. some) (λ u. record { at = λ w t k h stops. tt })
-
-behind_literal_some : {A : Type 0} (bs : List ℕ) (R : Reader A) → Inhabited R → Inhabited (bind (literal bs) (λ _. R))
-behind_literal_some bs R some = then_some (literal bs) (λ _. R) (literal_some bs) (λ u. some)
-
-starts_behind : {A : Type 0} {H Stops : List ℕ → Type 0} (b : ℕ) (bs : List ℕ) (R : Reader A) → ((m : List ℕ) → H (b ∷ m)) → Starts H Stops (bind (literal (b ∷ bs)) (λ _. R))
-starts_behind b bs R h = starts_first (literal (b ∷ bs)) (λ _. R) (starts_literal b bs h)
 
 -- a number, and then a value behind a literal that begins with no digit
 behind_number : {A : Type 0} {Stops : List ℕ → Type 0} (most : ℕ) (b : ℕ) (bs : List ℕ) (f : ℕ → A) → 9 ≤ most → most < 10 ^ 64 → is_digit b ≡ false
@@ -698,7 +659,7 @@ module _ (deep : Bool) (L : Level) (law : deep ≡ true → Lawful L) where
       (starts_symbol_of (λ l. starts_digit l ≡ false) (λ m. refl) (λ m. refl) (λ m. refl) (λ m. refl) (λ m. refl) true))
       (λ f. starts_where starts_digit positive (symbol_of deep L true) (starts_positive (Not 45) NameStops (λ c m h. (digit_starts c m h).0)) (starts_symbol_of (Not 45) (λ m. refl) (λ m. refl) (λ m. refl) (λ m. refl) (λ m. refl) true)))
       (starts_first word (arg_word deep L) (starts_words (λ c m h. h)))
-      (starts_on true 45 negative or_symbol (λ m. refl) (starts_where starts_digit positive (symbol_of deep L true) (starts_positive NoWord NameStops (λ c m h. (digit_starts c m h).1)) (no_word true)))
+      (starts_on true 45 negative or_symbol (λ m. refl) (starts_where starts_digit positive (symbol_of deep L true) (starts_positive NoWord NameStops (λ c m h. (digit_starts c m h).1.0)) (no_word true)))
 
   member_reader : IsReader MemberStops (where_first starts_word (bind word member_of) (numbered_path deep L.arg))
   member_reader =

@@ -1,9 +1,9 @@
 -- The Rust text of each variant, from the texts of its parts.
-use Rattle.std.proofs.Common.{◌≡◌, ◌∙◌, sym, ap, ℕ, Bool, List, [], ◌∷◌, ◌++◌, map, codes, refl}
+use Rattle.std.proofs.Common.{◌≡◌, ◌∙◌, sym, ap, ℕ, Bool, List, ◌++◌, map, codes}
 use Rattle.std.specs.Fmt.{decimal}
 use mathlib.Core.List.{map-map}
 use Rattle.type_names.specs.declared.name.Name.{Name, para-roll-Name}
-use Rattle.type_names.specs.declared.name.Name.TheOpen.{Name-F, Seg-F}
+use Rattle.type_names.specs.declared.name.Name.TheOpen.{Name-F}
 use Rattle.type_names.specs.declared.name.Name.TheVariants.{Path, Pointer, Slice, Array, Tuple, Str, Dyn, Fn, Number, Bind, Raw, rolls-Path, rolls-Pointer, rolls-Slice, rolls-Array, rolls-Tuple, rolls-Str, rolls-Dyn, rolls-Fn, rolls-Number, rolls-Bind, rolls-Raw}
 use Rattle.type_names.specs.declared.name.Seg.{Seg, para-roll-Seg}
 use Rattle.type_names.specs.declared.name.PtrKind.{PtrKind}

@@ -1,19 +1,18 @@
 -- What is read by the grammar of Rust's spelling is a name with its text.
-use Rattle.std.proofs.Common.{◌≡◌, ◌≢◌, ℕ, zero, suc, ◌-◌, ◌^◌, ◌<◌, ◌≤◌, Bool, true, false, ◌&&◌, if◌then◌else◌, List, [], ◌∷◌, ◌++◌, map, Option, Some, None, IfSome, ◌⊎◌, inl, inr, refl, sym, ap, subst, ◌∙◌, arith, codes, append_assoc, append-nil}
+use Rattle.std.proofs.Common.{◌≡◌, ◌≢◌, ℕ, zero, suc, ◌-◌, ◌^◌, ◌<◌, Bool, true, false, ◌&&◌, if◌then◌else◌, List, [], ◌∷◌, ◌++◌, map, Option, Some, None, IfSome, inl, inr, refl, sym, ap, subst, ◌∙◌, arith, codes, append_assoc, append-nil}
 use Rattle.std.specs.List.{AllByRecursion}
 use Rattle.std.specs.Fmt.{decimal}
 use Rattle.std.proofs.lemmas.Slice.Eq.{bytes_eq-Decides}
-use Rattle.type_names.specs.Joined.{IsJoined}
 use Rattle.type_names.specs.declared.name.Name.{Name, out-Name}
-use Rattle.type_names.specs.declared.name.Name.TheOpen.{Name-F, Seg-F}
-use Rattle.type_names.specs.declared.name.Name.TheVariants.{Path, Pointer, Slice, Array, Tuple, Str, Dyn, Fn, Number, Bind, outs-Path, outs-Pointer, outs-Slice, outs-Array, outs-Tuple, outs-Str, outs-Dyn, outs-Fn, outs-Number, outs-Bind}
+use Rattle.type_names.specs.declared.name.Name.TheOpen.{Name-F}
+use Rattle.type_names.specs.declared.name.Name.TheVariants.{Path, Pointer, Array, Tuple, Str, Dyn, Fn, Number, Bind, outs-Path, outs-Pointer, outs-Slice, outs-Array, outs-Tuple, outs-Str, outs-Dyn, outs-Fn, outs-Number, outs-Bind}
 use Rattle.type_names.specs.declared.name.Seg.{Seg}
 use Rattle.type_names.specs.declared.name.PtrKind.{PtrKind}
 use Rattle.type_names.specs.declared.name.PtrKind.TheVariants.{Ref, RefMut, Const, Mut, Boxed}
 use Rattle.type_names.specs.Words.{IsWord}
-use Rattle.type_names.specs.Names.{Role, whole, arg, member, IsNoMember, plain_str, IsSeg, IsLayer, Stands}
-use Rattle.type_names.specs.RustText.{rust_text, seg_text, joined, kind_text, word_text, args_text, dyn_text, result_text, sign_text, is_empty_tuple, is_empty_layer}
-use Rattle.type_names.specs.Reading.{Reader, give, never, bind, on, either, where_first, literal, many, word, number, starts_word, starts_digit}
+use Rattle.type_names.specs.Names.{Role, whole, arg, member, plain_str, IsSeg, IsLayer, Stands}
+use Rattle.type_names.specs.RustText.{rust_text, seg_text, joined, kind_text, word_text, args_text, result_text, sign_text, is_empty_tuple, is_empty_layer}
+use Rattle.type_names.specs.Reading.{Reader, give, never, bind, on, where_first, literal, many, word, number, starts_word, starts_digit}
 use Rattle.type_names.specs.RustGrammar.{Level, is_word, is_none, is_empty, is_plain_str, args_of, numbered, seg_behind, seg_of, path_from, path_behind, bracketed, pointed, referred_word, referred, tuple_from, dyn_from, parts_word, parts, result_of, function, numbered_path, worded_of, symbol_of, arg_word, level_of, none_level, has_some, fits, rust}
 use Rattle.type_names.proofs.RustLevels.{text-Path, text-Pointer, text-Slice, text-Array, text-Tuple, text-Str, text-Dyn, text-Fn, text-Number, text-Bind, text-Seg}
 use Rattle.type_names.proofs.Depth.{fits_stands}

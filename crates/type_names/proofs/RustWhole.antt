@@ -1,5 +1,5 @@
 -- The reader of Rust's spelling reads proper names.
-use Rattle.std.proofs.Common.{◌≡◌, ℕ, List, ◌∷◌, ◌++◌, sym, subst}
+use Rattle.std.proofs.Common.{sym, subst}
 use Rattle.type_names.specs.declared.name.Name.{Name}
 use Rattle.type_names.specs.Claims.{RustSpells, IsOfOne}
 use Rattle.type_names.specs.Reading.{Reader}

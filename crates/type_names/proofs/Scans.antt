@@ -1,10 +1,10 @@
 -- A word is read byte by byte.
-use Rattle.std.proofs.Common.{◌≡◌, ℕ, zero, suc, ◌+◌, ◌-◌, ◌<◌, ◌≤◌, Bool, true, false, ◌||◌, ◌&&◌, ◌==◌, ◌*◌, ◌^◌, nat_lt, nat_le, eq-eqb, if◌then◌else◌, List, [], ◌∷◌, ◌++◌, length, take, drop, Option, Some, None, Ok, Err, refl, sym, ap, subst, ◌∙◌, arith, append_assoc, append-nil}
-use Rattle.std.proofs.lemmas.Bool.{lt-ltb, ltb-true, leb-true, eqb-true}
+use Rattle.std.proofs.Common.{◌≡◌, ℕ, zero, suc, ◌+◌, ◌-◌, ◌<◌, ◌≤◌, Bool, true, false, ◌||◌, ◌&&◌, ◌==◌, ◌*◌, ◌^◌, nat_lt, nat_le, eq-eqb, if◌then◌else◌, List, [], ◌∷◌, ◌++◌, length, take, drop, Some, None, Ok, Err, refl, sym, ap, subst, ◌∙◌, arith, append_assoc, append-nil}
+use Rattle.std.proofs.lemmas.Bool.{lt-ltb, leb-true, eqb-true}
 use Rattle.type_names.specs.declared.word.Lead.{Lead}
 use Rattle.type_names.specs.declared.word.Scan.{Scan}
 use Rattle.type_names.specs.Words.{is_between, is_digit, lead_of, IsWord}
-use Rattle.type_names.specs.Reading.{Res, got, bad, and_then, if_some, cons, no_char, chars, word, prepend, Reader, literal, begins, tail, digits_after, number_at, number}
+use Rattle.type_names.specs.Reading.{Res, got, bad, if_some, cons, no_char, chars, word, prepend, literal, begins, tail, digits_after, number_at, number}
 use Rattle.type_names.specs.Steps.{Stepped, digit_at, grown}
 use Rattle.type_names.specs.declared.rest.Stop.{Stop}
 use Rattle.type_names.specs.declared.rest.Stop.TheVariants.{Bad, Memory}

@@ -1,10 +1,9 @@
 -- With which bytes a reader's texts begin, before what may follow them.
-use Rattle.std.proofs.Common.{◌≡◌, ◌≢◌, ℕ, zero, suc, Bool, true, false, ◌==◌, ◌&&◌, ◌||◌, if◌then◌else◌, List, [], ◌∷◌, ◌++◌, Option, Some, None, ◌⊎◌, inl, inr, refl, sym, ap, subst, ◌∙◌, append_assoc}
+use Rattle.std.proofs.Common.{◌≡◌, ℕ, Bool, true, false, ◌==◌, List, [], ◌∷◌, ◌++◌, Option, Some, None, ◌⊎◌, inl, inr, refl, sym, ap, subst, ◌∙◌, append_assoc}
 use Rattle.std.proofs.lemmas.Bool.{eqb-true}
-use Rattle.type_names.specs.Words.{lead_of, IsSomeWith, AreChars, IsWord}
+use Rattle.type_names.specs.Words.{lead_of, IsSomeWith, AreChars}
 use Rattle.type_names.specs.Reading.{Res, got, bad, Reader, begins, give, never, bind, on, either, where_first, literal, word, starts_word, if_some}
 use Rattle.type_names.proofs.Readers.{IsReader, Right, Viable, Any, literal_text}
-use Rattle.type_names.proofs.Words.{NoChar}
 
 -- a text before what may follow it begins as H says
 pub record Starts {A : Type 0} (H Stops : List ℕ → Type 0) (R : Reader A) : Type 0 where

@@ -1,10 +1,10 @@
 -- What a reader's answer says of a whole text.
-use Rattle.std.proofs.Common.{◌≡◌, ◌≢◌, ℕ, zero, suc, ◌+◌, ◌-◌, ◌^◌, min, ◌<◌, ◌≤◌, List, [], ◌∷◌, ◌++◌, length, take, drop, ◌⊎◌, inl, inr, refl, sym, ap, subst, ◌∙◌, arith, append_assoc, append-nil, length-append, length-take}
+use Rattle.std.proofs.Common.{◌≡◌, ℕ, zero, suc, ◌-◌, ◌^◌, min, ◌<◌, ◌≤◌, List, [], ◌∷◌, ◌++◌, length, take, ◌⊎◌, inl, inr, refl, sym, ap, subst, ◌∙◌, arith, append-nil, length-append}
 use Rattle.std.proofs.lemmas.Bool.{cases_lt}
 use Rattle.std.proofs.Math.Seq.{take-append_seam}
 use Rattle.type_names.specs.Reading.{Res, got, bad, Reader}
 use Rattle.type_names.specs.Claims.{Begins, IsLongest, IsBadAt, IsOfOne}
-use Rattle.type_names.proofs.Readers.{Suffix, Follows, IsReader, IsLocal, Right, Viable, Inhabited, suffix_of}
+use Rattle.type_names.proofs.Readers.{Suffix, IsReader, Right, Viable, Inhabited, suffix_of}
 
 -- no value has the text, and no value's text begins with more of it than this
 abbrev pub NotOne : {A : Type 0} → (A → List ℕ → Type 0) → List ℕ → ℕ → Type 0

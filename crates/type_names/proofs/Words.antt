@@ -1,10 +1,10 @@
 -- A word is read as far as it goes.
-use Rattle.std.proofs.Common.{◌≡◌, ◌≢◌, ℕ, zero, suc, ◌+◌, ◌-◌, ◌<◌, ◌≤◌, Bool, true, false, ◌==◌, ◌&&◌, ◌||◌, not, nat_le, nat_lt, if◌then◌else◌, List, [], ◌∷◌, ◌++◌, length, Option, Some, None, ◌⊎◌, inl, inr, refl, sym, ap, subst, ◌∙◌, arith, append-nil}
+use Rattle.std.proofs.Common.{◌≡◌, ℕ, zero, suc, ◌+◌, ◌-◌, ◌<◌, ◌≤◌, Bool, true, false, ◌==◌, ◌&&◌, ◌||◌, not, nat_lt, if◌then◌else◌, List, [], ◌∷◌, ◌++◌, length, Option, Some, None, ◌⊎◌, inl, inr, refl, sym, ap, subst, ◌∙◌, arith}
 use Rattle.std.proofs.lemmas.Bool.{ltb-true, lt-ltb}
 use Rattle.type_names.specs.declared.word.Lead.{Lead}
 use Rattle.type_names.specs.Words.{is_between, is_letter, is_digit, wide_lead, lead_of, led, IsSomeWith, AreChars, IsWord}
-use Rattle.type_names.specs.Reading.{Res, got, bad, and_then, if_some, cons, no_char, chars, word}
-use Rattle.type_names.proofs.Readers.{Suffix, Follows, IsLocal, Viable, Right, IsReader, Suffix-right, Follows-then, Follows-if, Follows-got, Follows-bad, Follows-past}
+use Rattle.type_names.specs.Reading.{Res, got, bad, if_some, cons, no_char, chars, word}
+use Rattle.type_names.proofs.Readers.{Suffix, Follows, Viable, Right, IsReader, Suffix-right, Follows-then, Follows-if, Follows-got, Follows-bad, Follows-past}
 
 -- no character of a word begins here
 abbrev pub NoChar : List ℕ → Type 0

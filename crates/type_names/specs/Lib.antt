@@ -8,3 +8,5 @@ pub mod Reading
 pub mod Scan
 pub mod Steps
 pub mod RustGrammar
+pub mod Closings
+pub mod CvGrammar

@@ -1,10 +1,9 @@
 -- Which names are proper.
-use Rattle.std.specs.Prelude.{◌≡◌, ◌≢◌, ℕ, zero, suc, ◌<◌, ◌^◌, Bool, true, List, [], ◌∷◌, Option, None, IfSome, codes}
+use Rattle.std.specs.Prelude.{◌≡◌, ◌≢◌, ℕ, zero, suc, ◌<◌, ◌^◌, true, List, [], ◌∷◌, None, IfSome, codes}
 use Rattle.std.specs.List.{AllByRecursion}
 use Rattle.type_names.specs.declared.name.Name.{Name, out-Name}
-use Rattle.type_names.specs.declared.name.Name.TheOpen.{Name-F, Seg-F}
+use Rattle.type_names.specs.declared.name.Name.TheOpen.{Name-F}
 use Rattle.type_names.specs.declared.name.Seg.{Seg}
-use Rattle.type_names.specs.declared.name.PtrKind.{PtrKind}
 use Rattle.type_names.specs.declared.name.PtrKind.TheVariants.{Boxed}
 use Rattle.type_names.specs.Words.{IsWord}
 

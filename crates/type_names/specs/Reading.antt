@@ -1,5 +1,5 @@
 -- Readers of texts: what one reads from the front of some bytes, and of which texts. Only the proofs of reading cite them.
-use Rattle.std.specs.Prelude.{◌≡◌, ◌≢◌, ℕ, zero, suc, ◌-◌, ◌==◌, ◌&&◌, ◌⊎◌, if◌then◌else◌, Bool, true, false, List, [], ◌∷◌, ◌++◌, length, take, nat_lt, nat_le, ◌*◌, ◌+◌, ◌≤◌, Option, Some, None}
+use Rattle.std.specs.Prelude.{◌≡◌, ◌≢◌, ℕ, zero, suc, ◌-◌, ◌==◌, ◌&&◌, ◌⊎◌, if◌then◌else◌, Bool, true, false, List, [], ◌∷◌, ◌++◌, length, nat_lt, nat_le, ◌*◌, ◌+◌, ◌≤◌, Option, Some, None}
 use Rattle.std.specs.Fmt.{decimal}
 use Rattle.type_names.specs.Joined.{IsJoined}
 use Rattle.type_names.specs.Words.{is_between, is_digit, lead_of, IsWord}

@@ -1,10 +1,9 @@
 -- The grammar of Rust's spelling, as it is read. Only the steps of reading and their proofs cite it.
 use Rattle.std.specs.Prelude.{ℕ, zero, suc, ◌-◌, ◌^◌, ◌&&◌, ◌||◌, Bool, true, false, List, [], ◌∷◌, Option, Some, None, bytes_eq, codes}
 use Rattle.type_names.specs.declared.name.Name.{Name, out-Name}
-use Rattle.type_names.specs.declared.name.Name.TheOpen.{Name-F, Seg-F}
+use Rattle.type_names.specs.declared.name.Name.TheOpen.{Name-F}
 use Rattle.type_names.specs.declared.name.Name.TheVariants.{Path, Pointer, Slice, Array, Tuple, Str, Dyn, Fn, Number, Bind}
 use Rattle.type_names.specs.declared.name.Seg.{Seg}
-use Rattle.type_names.specs.declared.name.PtrKind.{PtrKind}
 use Rattle.type_names.specs.declared.name.PtrKind.TheVariants.{Ref, RefMut, Const, Mut}
 use Rattle.type_names.specs.Reading.{Reader, give, never, bind, on, either, where_first, literal, many, word, number, starts_word, starts_digit}
 

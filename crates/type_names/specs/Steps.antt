@@ -1,9 +1,9 @@
 -- What a step of reading answers, by the readers of lists.
-use Rattle.std.specs.Prelude.{◌≡◌, ℕ, ◌+◌, ◌-◌, ◌*◌, ◌≤◌, ◌&&◌, nat_le, if◌then◌else◌, List, [], ◌∷◌, ◌++◌, length, take, drop, Option, Some, None, Result, Ok, Err}
+use Rattle.std.specs.Prelude.{◌≡◌, ℕ, ◌+◌, ◌-◌, ◌*◌, ◌&&◌, nat_le, if◌then◌else◌, List, [], ◌∷◌, Option, Some, None, Result, Ok, Err}
 use Rattle.type_names.specs.declared.rest.Stop.{Stop}
 use Rattle.type_names.specs.declared.rest.Stop.TheVariants.{Bad, Memory}
 use Rattle.type_names.specs.Words.{is_digit}
-use Rattle.type_names.specs.Reading.{Res, got, bad, word}
+use Rattle.type_names.specs.Reading.{Res, got, bad}
 
 -- the reader's answer, and what it leaves
 abbrev pub Stepped : {A : Type 0} → Res A → Result A Stop → List ℕ → Type 0

@@ -2,6 +2,8 @@
 #![tactic(auto)]
 
 mod cv;
+mod cv_form;
+mod cv_reader;
 mod error;
 mod name;
 mod put;
@@ -14,7 +16,7 @@ mod word;
 pub use cv::cv_spelling;
 pub use error::NameErr;
 pub use name::{Name, PtrKind, Seg};
-pub use read::{one_rust_name, proper_names_have_cv_spellings, read_rust};
+pub use read::{one_cv_name, one_rust_name, proper_names_have_cv_spellings, read_cv, read_rust};
 pub use rust::rust_spelling;
 pub use word::Word;
 

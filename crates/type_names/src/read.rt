@@ -52,9 +52,34 @@ pub fn read_rust(alloc: Global, text: &[u8]) -> Result<Name, NameErr>
     }
 }
 
+/// The name of which this is a CodeView text: its CodeView spelling, or that with some of its paths as `enum2$<X>`.
+/// `BadName` comes exactly where the text is no name's; its `at` is the length of the longest prefix of the text with which
+/// some name's text begins.
+pub fn read_cv(alloc: Global, text: &[u8]) -> Result<Name, NameErr>
+    ensures { IsRead CvSpells text.now result }
+{
+    let mut rest = Rest::new(text);
+    match rest.cv_whole(alloc, 64) {
+        Ok(name) => {
+            if rest.len() == 0 {
+                Ok(name)
+            } else {
+                Err(bad_name(text.len(), rest.len()))
+            }
+        }
+        Err(Stop::Bad) => Err(bad_name(text.len(), rest.len())),
+        Err(Stop::Memory) => Err(NameErr::Memory),
+    }
+}
+
 /// A text is the Rust text of at most one proper name.
 pub fn one_rust_name()
     ensures { IsOfOne RustSpells }
+{}
+
+/// A text is a CodeView text of at most one name.
+pub fn one_cv_name()
+    ensures { IsOfOne CvSpells }
 {}
 
 /// A name is proper exactly where some text is one of its CodeView spellings, and its CodeView text is one of them.

@@ -67,6 +67,13 @@ impl<'a> Rest<'a> {
     {
         self.left.len()
     }
+
+    /// The bytes that are left.
+    pub(crate) fn left(&self) -> &'a [u8]
+        ensures { result.now ≡ self.now }
+    {
+        self.left
+    }
 }
 
 impl Rest<'_> {

@@ -1,4 +1,4 @@
-use Rattle.std.proofs.Common.{◌≡◌, ◌∙◌, ◌++◌, ap, map, sym, subst, length, append_assoc, codes, arith, OnOk, flat_map, length-append}
+use Rattle.std.proofs.Common.{◌≡◌, ◌∙◌, ◌++◌, ap, map, sym, subst, append_assoc, codes, arith, OnOk, flat_map, length-append}
 use Rattle.std.specs.Fmt.{decimal}
 use Rattle.type_names.specs.RustText.{joined}
 use Rattle.type_names.specs.CvText.{cv_text, cv_kind_text, cv_word_text, cv_args_text, closed}

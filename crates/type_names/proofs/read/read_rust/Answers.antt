@@ -1,7 +1,6 @@
-use Rattle.std.proofs.Common.{◌≡◌, ◌∙◌, sym, ap, subst, arith, ◌-◌, ◌^◌, min, length, Err}
+use Rattle.std.proofs.Common.{◌∙◌, sym, ap, subst, arith, ◌-◌, ◌^◌, min, length, Err}
 use Rattle.type_names.specs.Claims.{IsRead, RustSpells}
 use Rattle.type_names.specs.Steps.{Stepped}
-use Rattle.type_names.specs.declared.error.NameErr.TheVariants.{BadName}
 use Rattle.type_names.specs.RustGrammar.{rust}
 use Rattle.type_names.proofs.RustWhole.{rust_names, rust_names_reader, rust_names_some}
 use Rattle.type_names.proofs.Whole.{read_whole, left_over, stopped, got_shorter, bad_shorter, bad_at}

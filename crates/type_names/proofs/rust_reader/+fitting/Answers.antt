@@ -1,5 +1,5 @@
-use Rattle.std.proofs.Common.{◌≡◌, ◌∙◌, sym, ap, ◌-◌, ◌&&◌, true, false}
-use Rattle.type_names.specs.declared.name.Name.{Name, out-Name}
+use Rattle.std.proofs.Common.{◌∙◌, sym, ap, ◌-◌, ◌&&◌}
+use Rattle.type_names.specs.declared.name.Name.{out-Name}
 use Rattle.type_names.specs.declared.name.Name.TheVariants.{outs-Path, outs-Pointer, outs-Slice, outs-Array, outs-Tuple, outs-Str, outs-Dyn, outs-Fn, outs-Number, outs-Bind, outs-Raw}
 use Rattle.type_names.specs.RustGrammar.{fits, all_fit, segs_fit}
 use Rattle.type_names.proofs.Depth.{fits_none, fits_at}

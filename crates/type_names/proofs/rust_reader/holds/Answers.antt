@@ -1,4 +1,4 @@
-use Rattle.std.proofs.Common.{◌≡◌, ◌∙◌, sym}
+use Rattle.std.proofs.Common.{◌∙◌, sym}
 use Rattle.type_names.proofs.RustLaws.{holds_some, holds_none}
 use Rattle.type_names.proofs.rust_reader.holds.Goals as goal
 

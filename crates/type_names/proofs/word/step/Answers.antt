@@ -1,4 +1,4 @@
-use Rattle.std.proofs.Common.{◌≡◌, ◌∙◌, sym, subst, arith}
+use Rattle.std.proofs.Common.{◌∙◌, sym, subst, arith}
 use Rattle.type_names.specs.Scan.{StepsOver}
 use Rattle.type_names.proofs.Scans.{over_bad, over_inside, over_none, over_lead}
 use Rattle.type_names.proofs.word.step.Goals as goal

@@ -1,4 +1,4 @@
-use Rattle.std.proofs.Common.{◌≡◌, sym, subst}
+use Rattle.std.proofs.Common.{sym, subst}
 use Rattle.type_names.specs.Scan.{WordEnd}
 use Rattle.type_names.proofs.Scans.{whole_scan}
 use Rattle.type_names.proofs.word.word_end.Goals as goal

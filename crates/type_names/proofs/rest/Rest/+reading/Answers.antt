@@ -1,6 +1,6 @@
-use Rattle.std.proofs.Common.{rules, ◌≡◌, ◌∙◌, sym, ap, subst, arith, true, false, List, ℕ, codes}
+use Rattle.std.proofs.Common.{◌∙◌, sym, ap, subst, codes}
 use Rattle.std.proofs.lemmas.Result.{err_from_is_err_and}
-use Rattle.type_names.specs.Reading.{Res, got, bad, begins, tail, literal, many}
+use Rattle.type_names.specs.Reading.{literal}
 use Rattle.type_names.specs.RustGrammar.{rust, has_some, seg_of}
 use Rattle.type_names.specs.Steps.{Stepped}
 use Rattle.type_names.proofs.Scans.{Stepped-err}

@@ -1,4 +1,4 @@
-use Rattle.std.proofs.Common.{◌≡◌, ℕ, ◌+◌, ◌*◌, length, codes}
+use Rattle.std.proofs.Common.{◌≡◌, ◌+◌, ◌*◌, length, codes}
 use Rattle.type_names.specs.Reading.{many, prepend}
 use Rattle.type_names.specs.RustGrammar.{rust, has_some, seg_of}
 use Rattle.type_names.proofs.rest.Rest.+reading.Given as goal

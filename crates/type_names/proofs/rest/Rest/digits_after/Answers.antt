@@ -1,4 +1,4 @@
-use Rattle.std.proofs.Common.{◌≡◌, ◌∙◌, sym, ap}
+use Rattle.std.proofs.Common.{◌∙◌, sym, ap}
 use Rattle.type_names.specs.Reading.{digits_after}
 use Rattle.type_names.proofs.Scans.{digits_more, digits_end}
 use Rattle.type_names.proofs.rest.Rest.digits_after.Goals as goal

@@ -1,4 +1,4 @@
-use Rattle.std.proofs.Common.{◌≡◌, ◌∙◌, sym, ap, subst, Some}
+use Rattle.std.proofs.Common.{◌∙◌, sym, ap, subst, Some}
 use Rattle.type_names.specs.Reading.{digits_after}
 use Rattle.type_names.specs.Steps.{Stepped}
 use Rattle.type_names.proofs.Scans.{number_none, number_zero, number_more}

@@ -1,4 +1,4 @@
-use Rattle.std.proofs.Common.{◌≡◌, sym, subst, take, drop}
+use Rattle.std.proofs.Common.{sym, subst, take, drop}
 use Rattle.type_names.specs.Words.{IsWord}
 use Rattle.type_names.specs.Scan.{WordEnd}
 use Rattle.type_names.proofs.Scans.{word_is}

@@ -1,7 +1,6 @@
-use Rattle.std.proofs.Common.{◌≡◌, ◌∙◌, sym, ap, subst, arith, ◌-◌, ◌^◌, min, length, Err}
+use Rattle.std.proofs.Common.{◌∙◌, sym, ap, subst, arith, ◌-◌, ◌^◌, min, length, Err}
 use Rattle.type_names.specs.Claims.{IsRead, WordSpells}
 use Rattle.type_names.specs.Steps.{Stepped}
-use Rattle.type_names.specs.declared.error.NameErr.TheVariants.{BadName}
 use Rattle.type_names.specs.Reading.{word}
 use Rattle.type_names.proofs.Words.{word_reader}
 use Rattle.type_names.proofs.Combined.{a_word}
