@@ -21,3 +21,4 @@ pub mod Ranges
 pub mod Leaves
 pub mod LeavesBack
 pub mod Related
+pub mod Holders
