@@ -19,7 +19,8 @@ use Rattle.layout_model.specs.declared.set.TypeDef.TheVariants.{Struct, Array, T
 use Rattle.layout_model.specs.declared.leaps.Leap.{Leap}
 use Rattle.layout_model.specs.DerivedNames.{segment, word_name, prim_name, function_name, global_name, pointer_name, own_name, Link, link, Derived}
 use Rattle.layout_model.specs.Leaps.{ended, cv_mark, cv_first, cv_firsts, own_text, closes, closes_at, closes_def}
-use Rattle.layout_model.proofs.CvTexts.{cv-Path, cv-Pointer, cv-Array, cv-Tuple, cv-Fn, cv-Seg, ends_with, after_open, closed_closes, closed_len, decimal_open}
+use Rattle.type_names.proofs.CvLevels.{cv-Path, cv-Pointer, cv-Array, cv-Tuple, cv-Fn, cv-Seg}
+use Rattle.layout_model.proofs.CvTexts.{ends_with, after_open, closed_closes, closed_len, decimal_open}
 use Rattle.layout_model.proofs.Leaping.{Spelled, Right, IsTable, Names, Links, shape, clash, some_same, over_right, ended_right, firsts_right}
 
 word_seg : (word : List ℕ) → cv_seg_text (segment word []) ≡ word ++ []

@@ -14,7 +14,6 @@ pub mod CvLinks
 pub mod CvEnds
 pub mod Passing
 pub mod Fits
-pub mod Unique
 pub mod SameNames
 pub mod Lying
 pub mod Ranges
