@@ -1,5 +1,5 @@
 -- The search for a field that leaves arrays out, where fields don't overlap.
-use Rattle.std.proofs.Common.{◌≡◌, ℕ, zero, suc, ◌+◌, ◌-◌, ◌<◌, ◌≤◌, ◌⊎◌, inl, inr, nat_lt, nat_le, ◌&&◌, not, if◌then◌else◌, Bool, true, false, List, [], ◌∷◌, map, Option, Some, None, slice_get, IsTrue, refl, sym, ap, subst, ◌∙◌, arith}
+use Rattle.std.proofs.Common.{◌≡◌, ℕ, zero, suc, ◌+◌, ◌-◌, ◌<◌, ◌≤◌, inl, inr, nat_lt, ◌&&◌, not, if◌then◌else◌, Bool, true, false, List, [], ◌∷◌, map, Option, Some, None, slice_get, IsTrue, refl, sym, ap, subst, ◌∙◌, arith}
 use Rattle.std.specs.List.{All, AllPairs, filter}
 use Rattle.std.proofs.lemmas.Bool.Decides.{nat_tests}
 use Rattle.std.proofs.lemmas.Grind.{common_steps}
@@ -14,7 +14,7 @@ use Rattle.layout_model.specs.declared.set.TypeDef.TheVariants.{Array}
 use Rattle.layout_model.specs.declared.honesty.Niche.{Niche}
 use Rattle.layout_model.specs.Primitives.{prim_bytes, is_whole}
 use Rattle.layout_model.specs.Sizes.{size}
-use Rattle.layout_model.specs.Overlap.{Before, Apart, AreApart, span_of, spans_of}
+use Rattle.layout_model.specs.Overlap.{Apart, AreApart, span_of, spans_of}
 use Rattle.layout_model.specs.Honest.{holds_bytes, holder}
 use Rattle.layout_model.specs.Lies.{is_array_at, is_array, plain_holder, field_lies, def_lies_at, lies}
 use Rattle.layout_model.proofs.Leaves.{untrue}

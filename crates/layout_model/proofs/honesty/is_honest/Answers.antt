@@ -1,12 +1,6 @@
-use Rattle.std.proofs.Common.{sym, subst, ◌∙◌}
-use Rattle.std.specs.Bool.{Decides}
-use Rattle.std.specs.List.{list_all}
-use Rattle.layout_model.specs.Honest.{IsHonest}
 use Rattle.layout_model.specs.Law5.{HasFitNumbers, Law5}
 use Rattle.layout_model.specs.Law7.{HasPartsApart, Law7}
 use Rattle.layout_model.specs.Laws.{sound_laws, further_laws}
-use Rattle.layout_model.specs.Lies.{honest_type}
-use Rattle.layout_model.specs.Sizes.{AreSmall}
 use Rattle.layout_model.proofs.Firsts.{each_type}
 use Rattle.layout_model.proofs.SizeSteps.{are_small}
 use Rattle.layout_model.proofs.LeavesBack.{honest_decides}

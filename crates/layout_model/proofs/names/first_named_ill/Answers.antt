@@ -1,6 +1,4 @@
-use Rattle.std.proofs.Common.{◌∙◌, subst, length, sym}
-use Rattle.layout_model.specs.Found.{IsFirst}
-use Rattle.layout_model.specs.Told.{IsNewText}
+use Rattle.std.proofs.Common.{◌∙◌}
 use Rattle.layout_model.proofs.SameNames.{first_named}
 use Rattle.layout_model.proofs.names.first_named_ill.Goals as goal
 
