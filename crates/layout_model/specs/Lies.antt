@@ -1,5 +1,5 @@
 -- Whether a tag lies on a leaf whose numbers a span holds, by levels. Private: `Honest` says what it means.
-use Rattle.std.specs.Prelude.{ℕ, zero, suc, ◌+◌, ◌-◌, ◌^◌, ◌==◌, nat_le, nat_lt, Bool, true, false, ◌&&◌, ◌||◌, not, if◌then◌else◌, List, [], ◌∷◌, Option, Some, None, slice_get}
+use Rattle.std.specs.Prelude.{ℕ, zero, suc, ◌+◌, ◌-◌, ◌^◌, ◌==◌, nat_le, Bool, true, false, ◌&&◌, ◌||◌, not, if◌then◌else◌, List, [], ◌∷◌, Option, Some, None, slice_get}
 use Rattle.std.specs.List.{list_all}
 use Rattle.layout_model.specs.declared.primitive.Primitive.{Primitive}
 use Rattle.layout_model.specs.declared.primitive.Primitive.TheVariants.{Bool as BoolPrim, Char}
@@ -11,7 +11,7 @@ use Rattle.layout_model.specs.declared.set.Selector.TheVariants.{Exact, Span, On
 use Rattle.layout_model.specs.declared.set.TypeRef.{TypeRef}
 use Rattle.layout_model.specs.declared.set.TypeRef.TheVariants.{Prim, User}
 use Rattle.layout_model.specs.declared.set.TypeDef.{TypeDef}
-use Rattle.layout_model.specs.declared.set.TypeDef.TheVariants.{Struct, Array, Thin, Slice, Str, Dyn, FnPtr, CLike, Enum, Bytes}
+use Rattle.layout_model.specs.declared.set.TypeDef.TheVariants.{Struct, Array, Thin, Slice, Str, Dyn, FnPtr, CLike, Enum}
 use Rattle.layout_model.specs.declared.honesty.Niche.{Niche}
 use Rattle.layout_model.specs.Honest.{holds_bytes, holder, is_owning}
 use Rattle.layout_model.specs.Primitives.{prim_bytes}
