@@ -1,7 +1,7 @@
 -- Which texts and derived names end with `>`, as the code finds it.
-use Rattle.std.proofs.Common.{◌≡◌, ℕ, zero, suc, ◌-◌, ◌==◌, ◌∙◌, List, [], ◌∷◌, length, map, Bool, true, false, Option, Some, None, get_or, slice_get, option_map, refl, sym, ap, subst, arith}
+use Rattle.std.proofs.Common.{◌≡◌, ℕ, suc, ◌-◌, ◌==◌, ◌∙◌, List, [], ◌∷◌, length, map, Bool, false, Option, Some, None, get_or, slice_get, option_map, refl, ap, arith}
 use Rattle.std.proofs.lemmas.Option.{slice_get-map}
-use Rattle.type_names.specs.CvText.{cv_text, ends_closed}
+use Rattle.type_names.specs.CvText.{ends_closed}
 use Rattle.layout_model.specs.declared.primitive.Primitive.{Primitive}
 use Rattle.layout_model.specs.declared.set.TypeRef.TheVariants.{Prim, User}
 use Rattle.layout_model.specs.declared.set.TypeDef.{TypeDef}

@@ -1,15 +1,15 @@
 -- How long derived names are in the spelling of CodeView, and which end with `>`.
-use Rattle.std.proofs.Common.{◌≡◌, ℕ, ◌+◌, ◌<◌, ◌⊎◌, inl, inr, ◌∙◌, List, [], ◌∷◌, ◌++◌, length, map, min, Bool, true, false, if◌then◌else◌, Option, Some, None, slice_get, refl, sym, ap, subst, arith, codes, length-append}
+use Rattle.std.proofs.Common.{◌≡◌, ℕ, ◌+◌, ◌<◌, inl, inr, ◌∙◌, List, [], ◌∷◌, ◌++◌, length, map, Bool, true, false, if◌then◌else◌, Some, slice_get, refl, sym, ap, arith, codes, length-append}
 use Rattle.std.specs.Fmt.{decimal}
 use Rattle.std.proofs.lemmas.Grind.{common_steps}
 use Rattle.std.proofs.lemmas.List.{length-map}
 use Rattle.type_names.specs.declared.name.Name.{Name}
-use Rattle.type_names.specs.declared.name.Name.TheVariants.{Path, Pointer, Array as ArrayName, Tuple, Fn}
+use Rattle.type_names.specs.declared.name.Name.TheVariants.{Array as ArrayName, Tuple}
 use Rattle.type_names.specs.declared.name.Seg.{Seg}
 use Rattle.type_names.specs.declared.name.PtrKind.{PtrKind}
 use Rattle.type_names.specs.declared.name.PtrKind.TheVariants.{Ref, RefMut, Const, Mut, Boxed}
 use Rattle.type_names.specs.RustText.{joined}
-use Rattle.type_names.specs.CvText.{cv_text, cv_seg_text, cv_kind_text, closed, ends_closed}
+use Rattle.type_names.specs.CvText.{cv_text, cv_seg_text, closed, ends_closed}
 use Rattle.layout_model.specs.declared.primitive.Primitive.{Primitive}
 use Rattle.layout_model.specs.declared.primitive.Primitive.TheVariants.{«Unit» as UnitPrim, Bool as BoolPrim, Char, I8, I16, I32, I64, I128, Isize, U8, U16, U32, U64, U128, Usize, F32, F64}
 use Rattle.layout_model.specs.declared.set.TypeRef.{TypeRef}
@@ -19,8 +19,9 @@ use Rattle.layout_model.specs.declared.set.TypeDef.TheVariants.{Struct, Array, T
 use Rattle.layout_model.specs.declared.leaps.Leap.{Leap}
 use Rattle.layout_model.specs.DerivedNames.{segment, word_name, prim_name, function_name, global_name, pointer_name, own_name, Link, link, Derived}
 use Rattle.layout_model.specs.Leaps.{ended, cv_mark, cv_first, cv_firsts, own_text, closes, closes_at, closes_def}
-use Rattle.layout_model.proofs.CvTexts.{cv-Path, cv-Pointer, cv-Array, cv-Tuple, cv-Fn, cv-Seg, ends_with, after_open, closed_closes, closed_len, decimal_open}
-use Rattle.layout_model.proofs.Leaping.{Spelled, Right, IsTable, Names, Links, shape, clash, some_same, over_right, ended_right, firsts_right}
+use Rattle.type_names.proofs.CvLevels.{cv-Path, cv-Pointer, cv-Array, cv-Tuple, cv-Fn, cv-Seg}
+use Rattle.layout_model.proofs.CvTexts.{ends_with, after_open, closed_closes, closed_len, decimal_open}
+use Rattle.layout_model.proofs.Leaping.{Spelled, Right, IsTable, shape, clash, some_same, over_right, ended_right, firsts_right}
 
 word_seg : (word : List ℕ) → cv_seg_text (segment word []) ≡ word ++ []
 word_seg word = cv-Seg (segment word [])

@@ -1,5 +1,5 @@
 -- The first law that fails, from what is found of each.
-use Rattle.std.proofs.Common.{zero, suc, min, ◌≡◌, ℕ, ◌+◌, ◌<◌, ◌≤◌, ◌⊎◌, inl, inr, List, [], ◌∷◌, ◌++◌, length, Bool, true, false, Option, Some, None, Result, Ok, Err, refl, sym, ap, subst, ◌∙◌, arith}
+use Rattle.std.proofs.Common.{zero, suc, min, ◌≡◌, ℕ, ◌+◌, ◌<◌, ◌⊎◌, inl, inr, List, [], ◌∷◌, ◌++◌, length, Bool, true, false, Option, Some, None, Result, Ok, Err, refl, ap, subst, arith}
 use Rattle.std.specs.Bool.{Decides}
 use Rattle.std.proofs.lemmas.Bool.{cases_lt, cases_order}
 use Rattle.layout_model.specs.declared.breach.Item.{Item}
@@ -9,7 +9,7 @@ use Rattle.layout_model.specs.declared.breach.CheckErr.TheVariants.{Breach, Memo
 use Rattle.layout_model.specs.declared.set.Set.{Set}
 use Rattle.layout_model.specs.declared.set.TypeDef.{TypeDef}
 use Rattle.std.specs.List.{All, HoldsAt}
-use Rattle.layout_model.specs.FirstBreach.{IsItem, Precedes, Law, Numbered, Holds, Fails, FailsAt, IsFirstBreach, AllHold, Checked, law_at, number_at, named}
+use Rattle.layout_model.specs.FirstBreach.{IsItem, Precedes, Law, Numbered, Holds, Fails, IsFirstBreach, AllHold, Checked, law_at, named}
 use Rattle.layout_model.specs.Found.{IsFirst, Found, InOrder, parts, earlier}
 
 -- what holds below i, and of i, holds below i + 1

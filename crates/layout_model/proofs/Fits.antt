@@ -1,17 +1,14 @@
 -- What the last leaps tell of derived names.
-use Rattle.std.proofs.Common.{not, true, false, is_some, Bool, nat_lt, ◌&&◌, Option, Some, None, ◌≡◌, ℕ, ◌+◌, ◌<◌, ◌≤◌, min, List, length, get_or, refl, sym, ap, subst, ◌∙◌, arith}
+use Rattle.std.proofs.Common.{not, true, false, is_some, nat_lt, ◌&&◌, Option, Some, None, ◌≡◌, ℕ, ◌<◌, List, length, get_or, refl, sym, ap, subst, ◌∙◌, arith}
 use Rattle.std.proofs.lemmas.Grind.{common_steps}
 use Rattle.std.specs.Bool.{Decides}
 use Rattle.std.proofs.lemmas.List.Elements.{at_read}
-use Rattle.type_names.specs.declared.name.Name.{Name}
-use Rattle.type_names.specs.RustText.{rust_text}
-use Rattle.type_names.specs.CvText.{cv_text}
 use Rattle.layout_model.specs.declared.set.TypeRef.TheVariants.{User}
 use Rattle.layout_model.specs.declared.set.TypeDef.{TypeDef}
 use Rattle.layout_model.specs.declared.set.TypeDef.TheVariants.{Struct, Array, Thin, Slice, Str, Dyn, FnPtr, CLike, Enum, Bytes}
 use Rattle.layout_model.specs.declared.leaps.Leap.{Leap}
-use Rattle.layout_model.specs.DerivedNames.{Derived, Ends, EndsShort, IsShort, OwnDerivedName}
-use Rattle.layout_model.specs.Leaps.{IsSettled, leaps, fits_by, name_fits, rust_firsts, cv_firsts}
+use Rattle.layout_model.specs.DerivedNames.{Derived, Ends, EndsShort, OwnDerivedName}
+use Rattle.layout_model.specs.Leaps.{IsSettled, fits_by, name_fits, rust_firsts, cv_firsts}
 use Rattle.layout_model.specs.Law10.{HasDerivedName}
 use Rattle.layout_model.proofs.Leaping.{Spelled, IsTable, EndsBy, leaps_table, last_tells}
 use Rattle.layout_model.proofs.RustLinks.{in_rust, rust_table}

@@ -10,7 +10,7 @@ use Rattle.layout_model.specs.declared.set.TypeDef.{TypeDef}
 use Rattle.layout_model.specs.declared.set.TypeDef.TheVariants.{Struct, Array, Thin, Slice, Str, Dyn, FnPtr, CLike, Enum, Bytes}
 use Rattle.layout_model.specs.declared.leaps.Leap.{Leap}
 use Rattle.layout_model.specs.DerivedNames.{Link, link, own_name, prim_name, Derived, Ends, of_prim, of_type, of_link}
-use Rattle.layout_model.specs.Leaps.{user_of, prim_len, ended, over, join, leap_on, leap, leaps, unended, unended_to, total, IsSettled}
+use Rattle.layout_model.specs.Leaps.{ended, over, join, leap_on, leap, leaps, unended, unended_to, total, IsSettled}
 
 -- the types of a set, and a spelling of names
 pub record Spelled : Type 0 where

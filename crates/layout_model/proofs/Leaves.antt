@@ -1,16 +1,13 @@
 -- What the test for a leaf comes to.
-use Rattle.std.proofs.Common.{◌≡◌, ℕ, zero, suc, ◌+◌, ◌-◌, ◌^◌, ◌<◌, ◌≤◌, ◌⊎◌, inl, inr, ◌==◌, ◌&&◌, ◌||◌, Bool, true, false, List, [], ◌∷◌, length, map, Option, Some, None, slice_get, get_or, IsSomeAnd, IsTrue, refl, sym, ap, subst, ◌∙◌, arith}
+use Rattle.std.proofs.Common.{◌≡◌, ℕ, zero, suc, ◌-◌, ◌^◌, ◌⊎◌, inl, inr, ◌==◌, ◌&&◌, ◌||◌, Bool, true, false, List, [], ◌∷◌, map, Option, Some, None, slice_get, get_or, IsTrue, refl, sym, ap, subst, ◌∙◌, arith}
 use Rattle.std.specs.Bool.{Decides}
-use Rattle.std.specs.List.{All, Contains, HoldsAt, list_all, filter_map, cons_option}
+use Rattle.std.specs.List.{All, Contains, list_all}
 use Rattle.std.proofs.lemmas.Bool.Decides.{Decides-by_and, nat_tests}
 use Rattle.std.proofs.lemmas.Grind.{common_steps}
-use Rattle.std.proofs.lemmas.Option.{slice_get_within, slice_get-get_or, get_or_from_slice_get}
-use Rattle.std.proofs.lemmas.List.Elements.{at_read, All-contains, All-map, Contains-get_or, Contains-append_left, Contains-append_right}
+use Rattle.std.proofs.lemmas.List.Elements.{All-contains, All-map}
 use Rattle.type_names.specs.declared.name.PtrKind.{PtrKind}
-use Rattle.layout_model.specs.declared.breach.Item.TheVariants.{Def}
 use Rattle.layout_model.specs.declared.primitive.Primitive.{Primitive}
 use Rattle.layout_model.specs.declared.primitive.Primitive.TheVariants.{Bool as BoolPrim, Char}
-use Rattle.layout_model.specs.declared.set.Set.{Set}
 use Rattle.layout_model.specs.declared.set.Field.{Field}
 use Rattle.layout_model.specs.declared.set.Case.{Case}
 use Rattle.layout_model.specs.declared.set.Tag.{Tag}
@@ -22,15 +19,12 @@ use Rattle.layout_model.specs.declared.set.TypeRef.TheVariants.{Prim, User}
 use Rattle.layout_model.specs.declared.set.TypeDef.{TypeDef}
 use Rattle.layout_model.specs.declared.set.TypeDef.TheVariants.{Struct, Array, Thin, Slice, Str, Dyn, FnPtr, CLike, Enum, Bytes}
 use Rattle.layout_model.specs.declared.honesty.Niche.{Niche}
-use Rattle.layout_model.specs.FirstBreach.{Holds}
-use Rattle.layout_model.specs.Law2.{IsChain, IsShallow, Law2}
 use Rattle.layout_model.specs.Law8.{case_numbers, exact_number, exact_numbers}
 use Rattle.layout_model.specs.Primitives.{prim_bytes}
-use Rattle.layout_model.specs.References.{contents, field_types, variant_types}
-use Rattle.layout_model.specs.Honest.{InSpan, holder, holds_bytes, struct_fields, variants_of, is_owning, IsPrimLeaf, IsTypeLeaf, HasLeaf, of_prim, of_type, in_struct, IsPrimNumber, IsAddress, IsTypeNumber, HasNumber, of_prim_number, of_type_number, in_struct_number, in_span_number, LiesOnLeaf, IsHonestVariant, AreHonestVariants, IsHonestType, IsHonest}
-use Rattle.layout_model.specs.Lies.{in_span, range_lies, prim_lies, pointer_lies, field_lies, selector_lies, is_none_left, enum_lies, def_lies, def_lies_at, lies, honest_selector, honest_variants, honest_type}
+use Rattle.layout_model.specs.Honest.{InSpan, holder, struct_fields, variants_of, is_owning, IsPrimLeaf, IsTypeLeaf, of_prim, of_type, in_struct, IsPrimNumber, IsAddress, IsTypeNumber, HasNumber, of_prim_number, of_type_number, in_struct_number, in_span_number, LiesOnLeaf}
+use Rattle.layout_model.specs.Lies.{in_span, range_lies, prim_lies, pointer_lies, field_lies, selector_lies, enum_lies, def_lies, def_lies_at, lies}
 use Rattle.layout_model.proofs.ExactNumbers.{all_picked}
-use Rattle.layout_model.proofs.Ranges.{RangeIn, in_span_decides, range_decides}
+use Rattle.layout_model.proofs.Ranges.{in_span_decides, range_decides}
 
 abbrev pub value_or : {A : Type 0} → A → Option A → A
 value_or d None = d

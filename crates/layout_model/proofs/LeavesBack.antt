@@ -1,15 +1,11 @@
 -- In an honest set the test accepts each leaf whose numbers are in the span.
-use Rattle.std.proofs.Common.{◌≡◌, ℕ, zero, suc, ◌+◌, ◌-◌, ◌^◌, ◌<◌, ◌≤◌, ◌⊎◌, inl, inr, ◌==◌, ◌&&◌, ◌||◌, Bool, true, false, if◌then◌else◌, List, [], ◌∷◌, length, map, Option, Some, None, slice_get, get_or, IsSomeAnd, IsTrue, refl, sym, ap, subst, ◌∙◌, arith}
+use Rattle.std.proofs.Common.{◌≡◌, ℕ, zero, suc, ◌-◌, ◌<◌, ◌⊎◌, inl, inr, ◌==◌, ◌&&◌, ◌||◌, Bool, true, false, if◌then◌else◌, List, [], ◌∷◌, length, map, Option, Some, None, slice_get, get_or, IsSomeAnd, refl, sym, ap, subst, ◌∙◌, arith}
 use Rattle.std.specs.Bool.{Decides}
-use Rattle.std.specs.List.{All, Contains, HoldsAt, list_all, filter_map, cons_option}
-use Rattle.std.proofs.lemmas.Bool.Decides.{Decides-by_and, nat_tests}
+use Rattle.std.specs.List.{All, Contains, list_all, cons_option}
 use Rattle.std.proofs.lemmas.Grind.{common_steps}
-use Rattle.std.proofs.lemmas.Option.{slice_get_within, slice_get-get_or, get_or_from_slice_get}
-use Rattle.std.proofs.lemmas.List.Elements.{at_read, All-contains, All-map, Contains-get_or, Contains-append_left, Contains-append_right}
-use Rattle.type_names.specs.declared.name.PtrKind.{PtrKind}
+use Rattle.std.proofs.lemmas.Option.{slice_get_within, get_or_from_slice_get}
+use Rattle.std.proofs.lemmas.List.Elements.{Contains-get_or, Contains-append_left, Contains-append_right}
 use Rattle.layout_model.specs.declared.breach.Item.TheVariants.{Def}
-use Rattle.layout_model.specs.declared.primitive.Primitive.{Primitive}
-use Rattle.layout_model.specs.declared.primitive.Primitive.TheVariants.{Bool as BoolPrim, Char}
 use Rattle.layout_model.specs.declared.set.Set.{Set}
 use Rattle.layout_model.specs.declared.set.Field.{Field}
 use Rattle.layout_model.specs.declared.set.Case.{Case}
@@ -23,15 +19,14 @@ use Rattle.layout_model.specs.declared.set.TypeDef.{TypeDef}
 use Rattle.layout_model.specs.declared.set.TypeDef.TheVariants.{Struct, Array, Thin, Slice, Str, Dyn, FnPtr, CLike, Enum, Bytes}
 use Rattle.layout_model.specs.declared.honesty.Niche.{Niche}
 use Rattle.layout_model.specs.FirstBreach.{Holds}
-use Rattle.layout_model.specs.Law2.{IsChain, IsShallow, Law2}
-use Rattle.layout_model.specs.Law8.{case_numbers, exact_number, exact_numbers}
+use Rattle.layout_model.specs.Law2.{Law2}
+use Rattle.layout_model.specs.Law8.{exact_number, exact_numbers}
 use Rattle.layout_model.specs.Primitives.{prim_bytes}
 use Rattle.layout_model.specs.References.{contents, field_types, variant_types}
-use Rattle.layout_model.specs.Honest.{InSpan, holder, holds_bytes, struct_fields, variants_of, is_owning, IsPrimLeaf, IsTypeLeaf, HasLeaf, of_prim, of_type, in_struct, IsPrimNumber, IsAddress, IsTypeNumber, HasNumber, of_prim_number, of_type_number, in_struct_number, in_span_number, LiesOnLeaf, IsHonestVariant, AreHonestVariants, IsHonestType, IsHonest}
-use Rattle.layout_model.specs.Lies.{in_span, range_lies, prim_lies, pointer_lies, field_lies, selector_lies, is_none_left, enum_lies, def_lies, def_lies_at, lies, honest_selector, honest_variants, honest_type}
-use Rattle.layout_model.proofs.ExactNumbers.{all_picked}
+use Rattle.layout_model.specs.Honest.{InSpan, holder, holds_bytes, struct_fields, is_owning, IsPrimLeaf, IsTypeLeaf, HasLeaf, of_prim, of_type, in_struct, IsAddress, IsTypeNumber, HasNumber, of_prim_number, of_type_number, in_struct_number, in_span_number, LiesOnLeaf, IsHonestVariant, IsHonestType, IsHonest}
+use Rattle.layout_model.specs.Lies.{in_span, pointer_lies, field_lies, selector_lies, def_lies, def_lies_at, lies, honest_selector, honest_type}
 use Rattle.layout_model.proofs.Ranges.{in_span_decides}
-use Rattle.layout_model.proofs.Leaves.{some_same, clash, untrue, both, equal, equals, no_member, all_pass, prim_back, PointerLies, pointer_back, lies_forth}
+use Rattle.layout_model.proofs.Leaves.{some_same, clash, untrue, both, equals, all_pass, prim_back, pointer_back, lies_forth}
 use Rattle.layout_model.proofs.SizeLevels.{HasChains, element_chains, shallow_chains}
 
 -- the constructors of a leaf, by what it is of

@@ -14,10 +14,10 @@ pub mod CvLinks
 pub mod CvEnds
 pub mod Passing
 pub mod Fits
-pub mod Unique
 pub mod SameNames
 pub mod Lying
 pub mod Ranges
 pub mod Leaves
 pub mod LeavesBack
 pub mod Related
+pub mod Holders

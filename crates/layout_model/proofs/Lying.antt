@@ -1,5 +1,5 @@
 -- One level of the test for a leaf.
-use Rattle.std.proofs.Common.{◌≡◌, ℕ, zero, suc, ◌-◌, ◌<◌, List, Option, slice_get, refl, sym, ap, ◌∙◌, arith}
+use Rattle.std.proofs.Common.{◌≡◌, ℕ, zero, suc, ◌-◌, ◌<◌, List, Option, slice_get, sym, ap, ◌∙◌, arith}
 use Rattle.layout_model.specs.declared.honesty.Niche.{Niche}
 use Rattle.layout_model.specs.declared.set.TypeRef.TheVariants.{User}
 use Rattle.layout_model.specs.declared.set.TypeDef.{TypeDef}

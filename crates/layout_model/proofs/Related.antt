@@ -1,7 +1,7 @@
 -- Two things done on one walk stay related where each of their steps keeps it.
 use Rattle.std.proofs.Common.{◌≡◌, refl, ℕ, zero, suc, ◌&&◌, Bool, true, false, List, [], ◌∷◌, map, Option, Some, None}
 use Rattle.std.specs.Prelude.{slice_get}
-use Rattle.snapshot_file.specs.Memory.{items_at, bytes_of}
+use Rattle.snapshot_file.specs.Memory.{bytes_of}
 use Rattle.type_names.specs.declared.name.PtrKind.{PtrKind}
 use Rattle.rust_value.specs.declared.value.Val.{Val}
 use Rattle.rust_value.specs.declared.value.Val.TheVariants as vals

@@ -1,11 +1,11 @@
 -- How long derived names are in the spelling of Rust.
-use Rattle.std.proofs.Common.{◌≡◌, ℕ, ◌+◌, ◌<◌, ◌∙◌, List, [], ◌∷◌, ◌++◌, length, map, min, Bool, true, false, if◌then◌else◌, Some, None, slice_get, refl, sym, ap, subst, arith, codes, length-append, append_assoc}
+use Rattle.std.proofs.Common.{◌≡◌, ℕ, ◌+◌, ◌<◌, ◌∙◌, List, [], ◌∷◌, ◌++◌, length, map, min, Bool, true, if◌then◌else◌, Some, slice_get, refl, sym, ap, arith, codes, length-append}
 use Rattle.std.specs.Fmt.{decimal}
 use Rattle.std.proofs.lemmas.Grind.{common_steps}
 use Rattle.std.proofs.lemmas.List.{length-map}
 use Rattle.type_names.specs.declared.name.Name.{Name, out-roll-Name}
-use Rattle.type_names.specs.declared.name.Name.TheOpen.{Name-F, Seg-F}
-use Rattle.type_names.specs.declared.name.Name.TheVariants.{Path, Pointer, Array as ArrayName, Tuple, Fn, rolls-Tuple}
+use Rattle.type_names.specs.declared.name.Name.TheOpen.{Name-F}
+use Rattle.type_names.specs.declared.name.Name.TheVariants.{Array as ArrayName, Tuple, rolls-Tuple}
 use Rattle.type_names.specs.declared.name.Seg.{Seg}
 use Rattle.type_names.specs.declared.name.PtrKind.{PtrKind}
 use Rattle.type_names.specs.declared.name.PtrKind.TheVariants.{Ref, RefMut, Const, Mut, Boxed}

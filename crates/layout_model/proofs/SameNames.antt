@@ -1,8 +1,7 @@
 -- Names of types are told apart by their Rust texts.
-use Rattle.std.proofs.Common.{◌≡◌, ◌≢◌, ℕ, ◌<◌, ◌⊎◌, inl, inr, Bool, true, false, IsTrue, List, length, map, Option, Some, None, IfSome, get_or, refl, sym, ap, subst, ◌∙◌, arith}
-use Rattle.std.specs.List.{All, HoldsAt}
+use Rattle.std.proofs.Common.{◌≡◌, ◌≢◌, ℕ, ◌<◌, inl, inr, Bool, true, false, List, length, map, Option, Some, None, IfSome, get_or, refl, sym, ap, subst, ◌∙◌, arith}
+use Rattle.std.specs.List.{HoldsAt}
 use Rattle.std.proofs.lemmas.List.{get_or-map, length-map}
-use Rattle.std.proofs.lemmas.List.Elements.{All-get_or, at_read}
 use Rattle.type_names.specs.declared.name.Name.{Name}
 use Rattle.type_names.specs.Names.{IsProper}
 use Rattle.type_names.specs.RustText.{rust_text}

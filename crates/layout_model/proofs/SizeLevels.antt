@@ -1,5 +1,5 @@
 -- Where no chain has more than 256 types, sizes are those of the definition.
-use Rattle.std.proofs.Common.{◌≡◌, ℕ, zero, suc, ◌+◌, ◌*◌, ◌<◌, ◌≤◌, List, [], ◌∷◌, length, get_or, slice_get, Option, Some, None, refl, sym, ap, subst, ◌∙◌, arith, IsSomeAnd}
+use Rattle.std.proofs.Common.{◌≡◌, ℕ, zero, suc, ◌*◌, ◌<◌, ◌≤◌, List, [], ◌∷◌, length, get_or, slice_get, Option, Some, None, refl, sym, ap, ◌∙◌, arith, IsSomeAnd}
 use Rattle.std.specs.List.{Contains, HoldsAt}
 use Rattle.std.proofs.lemmas.Option.{slice_get_within, get_or_from_slice_get, slice_get-get_or}
 use Rattle.std.proofs.lemmas.List.Elements.{at_read}
@@ -10,7 +10,6 @@ use Rattle.layout_model.specs.declared.set.TypeRef.TheVariants.{Prim, User}
 use Rattle.layout_model.specs.declared.set.TypeDef.{TypeDef}
 use Rattle.layout_model.specs.declared.set.TypeDef.TheVariants.{Struct, Array, Thin, Slice, Str, Dyn, FnPtr, CLike, Enum, Bytes}
 use Rattle.layout_model.specs.FirstBreach.{Holds}
-use Rattle.layout_model.specs.HasSizes.{HasSizes}
 use Rattle.layout_model.specs.Law1.{IsWithin}
 use Rattle.layout_model.specs.Law2.{IsChain, IsShallow, Law2}
 use Rattle.layout_model.specs.References.{contents}

@@ -1,12 +1,11 @@
 -- Spans in the order of their begins.
-use Rattle.std.proofs.Common.{Ordering, nat_lt, ◌≡◌, ℕ, ◌+◌, ◌<◌, ◌≤◌, ◌⊎◌, inl, inr, List, length, get_or, Bool, true, false, refl, sym, ap, subst, ◌∙◌, arith}
+use Rattle.std.proofs.Common.{Ordering, nat_lt, ◌≡◌, ℕ, ◌+◌, ◌<◌, ◌≤◌, inl, inr, List, length, get_or, Bool, true, false, arith}
 use Rattle.std.specs.Bool.{Decides}
 use Rattle.std.specs.Ordering.{nat_cmp, ordering_then, is_lt}
-use Rattle.std.specs.List.{AllPairs, AllAdjacentBelow, All, filter}
+use Rattle.std.specs.List.{AllAdjacentBelow, All, filter}
 use Rattle.std.proofs.lemmas.List.Elements.{All-weaker, filter_passes}
 use Rattle.std.specs.List.Sorted.{IsPermutation, IsSorted}
 use Rattle.std.proofs.lemmas.List.Sorted.{IsPermutation-sym, All-permutation}
-use Rattle.std.proofs.lemmas.Bool.{cases_order, cases_lt}
 use Rattle.std.proofs.lemmas.Grind.{common_steps}
 use Rattle.layout_model.specs.Overlap.{Before, Apart, AreApart}
 use Rattle.layout_model.proofs.Pairs.{pairs_from_neighbours, pairs_permuted}

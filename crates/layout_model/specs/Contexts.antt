@@ -1,5 +1,5 @@
 -- What a part is read in.
-use Rattle.std.specs.Prelude.{ℕ, ◌+◌, ◌*◌, min, ◌==◌, Bool, List, [], Option, Some, None}
+use Rattle.std.specs.Prelude.{ℕ, ◌+◌, ◌*◌, min, ◌==◌, Bool, List, Option, Some, None}
 use Rattle.std.specs.List.{range_with_len, find}
 use Rattle.snapshot_file.specs.Memory.{Run, sub, number, items_at}
 use Rattle.layout_model.specs.declared.set.Set.{Set}

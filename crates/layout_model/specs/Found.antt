@@ -1,6 +1,5 @@
 -- What is found of one law. Private: `FirstBreach` says what it comes to.
 use Rattle.std.specs.Prelude.{◌≡◌, ℕ, ◌<◌, ◌⊎◌, min, List, [], ◌∷◌, Option, Some, None, Result, Ok, Err, Bool, true, false}
-use Rattle.layout_model.specs.declared.breach.Item.{Item}
 use Rattle.layout_model.specs.declared.breach.Item.TheVariants.{Whole, Def, Static}
 use Rattle.layout_model.specs.declared.breach.CheckErr.{CheckErr}
 use Rattle.layout_model.specs.declared.breach.CheckErr.TheVariants.{Breach, Memory}

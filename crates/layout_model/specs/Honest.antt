@@ -7,15 +7,14 @@ use Rattle.layout_model.specs.declared.primitive.Primitive.{Primitive}
 use Rattle.layout_model.specs.declared.primitive.Primitive.TheVariants.{Bool as BoolPrim, Char}
 use Rattle.layout_model.specs.declared.set.Set.{Set}
 use Rattle.layout_model.specs.declared.set.Field.{Field}
-use Rattle.layout_model.specs.declared.set.Case.{Case}
 use Rattle.layout_model.specs.declared.set.Tag.{Tag}
 use Rattle.layout_model.specs.declared.set.Variant.{Variant}
 use Rattle.layout_model.specs.declared.set.Selector.{Selector}
-use Rattle.layout_model.specs.declared.set.Selector.TheVariants.{Exact, Span, Only}
+use Rattle.layout_model.specs.declared.set.Selector.TheVariants.{Span}
 use Rattle.layout_model.specs.declared.set.TypeRef.{TypeRef}
 use Rattle.layout_model.specs.declared.set.TypeRef.TheVariants.{Prim, User}
 use Rattle.layout_model.specs.declared.set.TypeDef.{TypeDef}
-use Rattle.layout_model.specs.declared.set.TypeDef.TheVariants.{Struct, Array, Thin, Slice, Str, Dyn, FnPtr, CLike, Enum, Bytes}
+use Rattle.layout_model.specs.declared.set.TypeDef.TheVariants.{Struct, Thin, Slice, Str, Dyn, FnPtr, CLike, Enum}
 use Rattle.layout_model.specs.Law8.{case_numbers, exact_numbers}
 use Rattle.layout_model.specs.Primitives.{prim_bytes}
 use Rattle.layout_model.specs.Sizes.{size}

@@ -1,5 +1,5 @@
 -- Law 10: names are Rust's, short, shaped by the kinds of their types, and no two types share one.
-use Rattle.std.specs.Prelude.{◌≡◌, ◌≢◌, ℕ, ◌<◌, ◌⊎◌, true, false, IsTrue, List, Option, Some, None, IfSome, slice_index_or}
+use Rattle.std.specs.Prelude.{◌≡◌, ◌≢◌, ℕ, ◌<◌, ◌⊎◌, false, IsTrue, List, Option, Some, None, IfSome, slice_index_or}
 use Rattle.std.specs.List.{All, HoldsAt}
 use Rattle.type_names.specs.declared.name.Name.{Name}
 use Rattle.type_names.specs.Names.{IsProper}
@@ -8,7 +8,7 @@ use Rattle.layout_model.specs.declared.shapes.FatContent.TheVariants.{OfSlice, O
 use Rattle.layout_model.specs.declared.set.Set.{Set}
 use Rattle.layout_model.specs.declared.set.Static.{Static as FixedValue}
 use Rattle.layout_model.specs.declared.set.TypeDef.{TypeDef}
-use Rattle.layout_model.specs.declared.set.TypeDef.TheVariants.{Struct, Array, Thin, Slice, Str, Dyn, FnPtr, CLike, Enum, Bytes}
+use Rattle.layout_model.specs.declared.set.TypeDef.TheVariants.{Struct, Slice, Str, Dyn, CLike, Enum, Bytes}
 use Rattle.layout_model.specs.FirstBreach.{Law}
 use Rattle.layout_model.specs.NameShapes.{is_raw, is_path, is_struct_name, fat_of}
 use Rattle.layout_model.specs.DerivedNames.{name_of, IsShort, OwnDerivedName}

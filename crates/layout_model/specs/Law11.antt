@@ -6,7 +6,7 @@ use Rattle.layout_model.specs.declared.set.Set.{Set}
 use Rattle.layout_model.specs.declared.set.TypeRef.{TypeRef}
 use Rattle.layout_model.specs.declared.set.TypeRef.TheVariants.{Prim, User}
 use Rattle.layout_model.specs.declared.set.TypeDef.{TypeDef}
-use Rattle.layout_model.specs.declared.set.TypeDef.TheVariants.{Struct, Array, Thin, Slice, Str, Dyn, FnPtr, CLike, Enum, Bytes}
+use Rattle.layout_model.specs.declared.set.TypeDef.TheVariants.{Array, Thin, FnPtr}
 use Rattle.layout_model.specs.FirstBreach.{Law}
 use Rattle.layout_model.specs.References.{references}
 

@@ -1,5 +1,5 @@
 -- Law 14: statics have addresses, all close together, and the set is not too large.
-use Rattle.std.specs.Prelude.{ℕ, ◌+◌, ◌-◌, ◌^◌, ◌≤◌, min, List, [], ◌∷◌, length, Option, IsSome}
+use Rattle.std.specs.Prelude.{ℕ, ◌+◌, ◌-◌, ◌^◌, ◌≤◌, min, List, [], ◌∷◌, length, IsSome}
 use Rattle.std.specs.List.{All, HoldsAt, filter_map, sum_by}
 use Rattle.layout_model.specs.declared.breach.Item.TheVariants.{Whole, Def, Static}
 use Rattle.layout_model.specs.declared.set.Set.{Set}

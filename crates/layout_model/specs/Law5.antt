@@ -1,5 +1,5 @@
 -- Law 5: tags are whole numbers, numbers fit their tag, and selectors fit the enum.
-use Rattle.std.specs.Prelude.{◌≡◌, ◌≢◌, ℕ, ◌^◌, ◌<◌, ◌≤◌, ◌↔◌, Bool, true, false, List, length, Option, Some, None, IsTrue, IsSome, IsNone, IfSome}
+use Rattle.std.specs.Prelude.{◌≡◌, ◌≢◌, ℕ, ◌^◌, ◌<◌, ◌≤◌, ◌↔◌, Bool, true, false, List, length, Option, IsTrue, IsSome, IsNone, IfSome}
 use Rattle.std.specs.List.{All, HoldsAt, count_by}
 use Rattle.layout_model.specs.declared.breach.Item.TheVariants.{Whole, Def, Static}
 use Rattle.layout_model.specs.declared.primitive.Primitive.{Primitive}

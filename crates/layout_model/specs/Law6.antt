@@ -7,7 +7,7 @@ use Rattle.layout_model.specs.declared.primitive.Primitive.TheVariants.{U8}
 use Rattle.layout_model.specs.declared.set.TypeRef.{TypeRef}
 use Rattle.layout_model.specs.declared.set.TypeRef.TheVariants.{Prim, User}
 use Rattle.layout_model.specs.declared.set.TypeDef.{TypeDef}
-use Rattle.layout_model.specs.declared.set.TypeDef.TheVariants.{Struct, Array, Thin, Slice, Str, Dyn, FnPtr, CLike, Enum, Bytes}
+use Rattle.layout_model.specs.declared.set.TypeDef.TheVariants.{Thin, Slice, Str, Dyn}
 use Rattle.layout_model.specs.FirstBreach.{Law}
 
 -- the type is a thin pointer to something of which P holds

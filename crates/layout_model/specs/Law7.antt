@@ -1,5 +1,5 @@
 -- Law 7: fields of size at least 1 don't overlap, and elements of arrays have a size of at least 1.
-use Rattle.std.specs.Prelude.{ℕ, ◌<◌, List}
+use Rattle.std.specs.Prelude.{◌<◌, List}
 use Rattle.std.specs.List.{All, HoldsAt}
 use Rattle.layout_model.specs.declared.breach.Item.TheVariants.{Whole, Def, Static}
 use Rattle.layout_model.specs.declared.set.Set.{Set}

@@ -6,7 +6,7 @@ use Rattle.layout_model.specs.declared.set.Set.{Set}
 use Rattle.layout_model.specs.declared.set.Case.{Case}
 use Rattle.layout_model.specs.declared.set.Tag.{Tag}
 use Rattle.layout_model.specs.declared.set.Selector.{Selector}
-use Rattle.layout_model.specs.declared.set.Selector.TheVariants.{Exact, Span, Only}
+use Rattle.layout_model.specs.declared.set.Selector.TheVariants.{Exact, Span}
 use Rattle.layout_model.specs.declared.set.Variant.{Variant}
 use Rattle.layout_model.specs.declared.set.TypeDef.{TypeDef}
 use Rattle.layout_model.specs.declared.set.TypeDef.TheVariants.{CLike, Enum}

@@ -1,5 +1,5 @@
 -- Law 9: no field of size at least 1 of an exact variant overlaps the tag.
-use Rattle.std.specs.Prelude.{◌≡◌, ℕ, ◌<◌, List, Option, Some, None}
+use Rattle.std.specs.Prelude.{ℕ, ◌<◌, List, Option, Some, None}
 use Rattle.std.specs.List.{All, HoldsAt}
 use Rattle.layout_model.specs.declared.breach.Item.TheVariants.{Whole, Def, Static}
 use Rattle.layout_model.specs.declared.set.Set.{Set}

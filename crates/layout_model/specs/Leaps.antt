@@ -1,5 +1,5 @@
 -- Lengths of derived names by leaps along links. Private: `DerivedNames` says what they mean.
-use Rattle.std.specs.Prelude.{Bool, true, false, not, is_some, nat_lt, ◌&&◌, ◌≡◌, ℕ, zero, suc, ◌+◌, ◌<◌, ◌≤◌, min, List, [], ◌∷◌, length, map, Option, Some, None, slice_get, if◌then◌else◌}
+use Rattle.std.specs.Prelude.{Bool, true, false, not, is_some, nat_lt, ◌&&◌, ◌≡◌, ℕ, zero, suc, ◌+◌, ◌≤◌, min, List, [], ◌∷◌, length, map, Option, Some, None, slice_get, if◌then◌else◌}
 use Rattle.std.specs.Fmt.{decimal}
 use Rattle.type_names.specs.declared.name.Name.{Name}
 use Rattle.type_names.specs.declared.name.PtrKind.{PtrKind}
@@ -9,7 +9,7 @@ use Rattle.type_names.specs.CvText.{cv_text, ends_closed}
 use Rattle.layout_model.specs.declared.set.TypeRef.{TypeRef}
 use Rattle.layout_model.specs.declared.set.TypeRef.TheVariants.{Prim, User}
 use Rattle.layout_model.specs.declared.set.TypeDef.{TypeDef}
-use Rattle.layout_model.specs.declared.set.TypeDef.TheVariants.{Struct, Array, Thin, Slice, Str, Dyn, FnPtr, CLike, Enum, Bytes}
+use Rattle.layout_model.specs.declared.set.TypeDef.TheVariants.{Array, Thin}
 use Rattle.layout_model.specs.declared.leaps.Leap.{Leap}
 use Rattle.layout_model.specs.DerivedNames.{prim_name, own_name}
 

@@ -1,5 +1,5 @@
 -- Whether a tag lies on a leaf whose numbers a span holds, by levels. Private: `Honest` says what it means.
-use Rattle.std.specs.Prelude.{ℕ, zero, suc, ◌+◌, ◌-◌, ◌^◌, ◌==◌, nat_le, nat_lt, Bool, true, false, ◌&&◌, ◌||◌, if◌then◌else◌, List, [], ◌∷◌, Option, Some, None, slice_get}
+use Rattle.std.specs.Prelude.{ℕ, zero, suc, ◌+◌, ◌-◌, ◌^◌, ◌==◌, nat_le, Bool, true, false, ◌&&◌, ◌||◌, not, if◌then◌else◌, List, [], ◌∷◌, Option, Some, None, slice_get}
 use Rattle.std.specs.List.{list_all}
 use Rattle.layout_model.specs.declared.primitive.Primitive.{Primitive}
 use Rattle.layout_model.specs.declared.primitive.Primitive.TheVariants.{Bool as BoolPrim, Char}
@@ -11,9 +11,9 @@ use Rattle.layout_model.specs.declared.set.Selector.TheVariants.{Exact, Span, On
 use Rattle.layout_model.specs.declared.set.TypeRef.{TypeRef}
 use Rattle.layout_model.specs.declared.set.TypeRef.TheVariants.{Prim, User}
 use Rattle.layout_model.specs.declared.set.TypeDef.{TypeDef}
-use Rattle.layout_model.specs.declared.set.TypeDef.TheVariants.{Struct, Array, Thin, Slice, Str, Dyn, FnPtr, CLike, Enum, Bytes}
+use Rattle.layout_model.specs.declared.set.TypeDef.TheVariants.{Struct, Array, Thin, Slice, Str, Dyn, FnPtr, CLike, Enum}
 use Rattle.layout_model.specs.declared.honesty.Niche.{Niche}
-use Rattle.layout_model.specs.Honest.{holder, is_owning}
+use Rattle.layout_model.specs.Honest.{holds_bytes, holder, is_owning}
 use Rattle.layout_model.specs.Primitives.{prim_bytes}
 
 abbrev pub in_span : Niche → ℕ → Bool
@@ -30,6 +30,20 @@ prim_lies niche _ off = false
 
 abbrev pub pointer_lies : Niche → ℕ → Bool
 pointer_lies niche off = off == 0 && (niche.width == 8 && range_lies niche 1 (2 ^ 64 - 1))
+
+abbrev pub is_array_at : Option TypeDef → Bool
+is_array_at (Some (Array elem count)) = true
+is_array_at _ = false
+
+-- the reference is to an array
+abbrev pub is_array : List TypeDef → TypeRef → Bool
+is_array types (Prim prim) = false
+is_array types (User i) = is_array_at (slice_get types i)
+
+-- the first field that is no array and has all of these bytes
+abbrev pub plain_holder : List TypeDef → ℕ → ℕ → List Field → Option Field
+plain_holder types width off [] = None
+plain_holder types width off (field ∷ fields) = if not (is_array types field.ty) && holds_bytes types width off field then Some field else plain_holder types width off fields
 
 abbrev pub field_lies : (TypeRef → ℕ → Bool) → ℕ → Option Field → Bool
 field_lies rest off None = false

@@ -2,7 +2,7 @@
 use Rattle.std.specs.Prelude.{ℕ, Bool, true, false, ◌&&◌, is_none, if◌then◌else◌, List, [], ◌∷◌, Option, Some, None, codes}
 use Rattle.std.specs.Str.{bytes_eq}
 use Rattle.type_names.specs.declared.name.Name.{Name, out-Name}
-use Rattle.type_names.specs.declared.name.Name.TheOpen.{Name-F, Seg-F}
+use Rattle.type_names.specs.declared.name.Name.TheOpen.{Name-F}
 use Rattle.type_names.specs.declared.name.Seg.{Seg}
 use Rattle.type_names.specs.declared.name.PtrKind.{PtrKind}
 use Rattle.type_names.specs.declared.name.PtrKind.TheVariants.{Boxed}

@@ -1,5 +1,5 @@
 -- Spans of bytes, each a begin and a length.
-use Rattle.std.specs.Prelude.{◌≡◌, ℕ, ◌+◌, ◌<◌, ◌≤◌, ◌⊎◌, List, map, filter, nat_lt}
+use Rattle.std.specs.Prelude.{ℕ, ◌+◌, ◌≤◌, ◌⊎◌, List, map, filter, nat_lt}
 use Rattle.std.specs.List.{AllPairs}
 use Rattle.layout_model.specs.declared.set.Field.{Field}
 use Rattle.layout_model.specs.declared.set.TypeDef.{TypeDef}

@@ -1,6 +1,6 @@
 -- What a type reaches in a part, and what is done with it. The count of what is reached, and whether some of it is
 -- missing, are instances.
-use Rattle.std.specs.Prelude.{ℕ, zero, suc, ◌&&◌, nat_lt, Bool, true, false, List, [], map, Option, Some, None, slice_get}
+use Rattle.std.specs.Prelude.{ℕ, zero, suc, ◌&&◌, Bool, true, false, List, [], map, Option, Some, None, slice_get}
 use Rattle.snapshot_file.specs.Memory.{items_at, bytes_of}
 use Rattle.type_names.specs.declared.name.PtrKind.{PtrKind}
 use Rattle.rust_value.specs.declared.value.Val.{Val}

@@ -1,10 +1,9 @@
 //! Lengths of derived names in the spelling of CodeView.
 ghost use Rattle.std.specs.Prelude.{◌≡◌, IfOk, length, map};
-ghost use Rattle.type_names.specs.CvText.{cv_text};
+ghost use Rattle.type_names.specs.CvText.{cv_text, ends_closed};
 ghost use Rattle.layout_model.specs.DerivedNames.{prim_name};
 ghost use Rattle.layout_model.specs.Leaps.{over, own_text, cv_mark, cv_first, cv_firsts, closes, closes_def};
 
-use crate::cv_text::ends_closed;
 use crate::leaps::Leap;
 use crate::primitive::Primitive;
 use crate::rust_lengths::{digits, ended};
@@ -53,6 +52,17 @@ fn mark(closed: bool, kind: PtrKind) -> u32
         PtrKind::Const => 12 + space,
         PtrKind::Boxed => 40,
     }
+}
+
+/// Whether the text ends with `>`.
+#[tactic(auto, using(crate::proofs::CvEnds::ends_by_last))]
+fn ends_closed(text: &[u8]) -> bool
+    ensures { result ≡ ends_closed text.now }
+{
+    if text.is_empty() {
+        return false;
+    }
+    text[text.len() - 1] == b'>'
 }
 
 /// Whether the derived name of a type ends with `>`.

@@ -1,9 +1,13 @@
 //! Honest sets: each span of numbers is that of a leaf in its variant.
-ghost use Rattle.std.specs.Prelude.{◌≡◌, ◌+◌, ◌<◌, ◌≤◌, ◌^◌, option_copied};
+ghost use Rattle.std.specs.Prelude.{◌≡◌, ◌+◌, ◌<◌, ◌≤◌, ◌^◌, option_copied, IfSome, IsTrue};
 ghost use Rattle.std.specs.Bool.{Decides};
-ghost use Rattle.std.specs.List.{list_all};
+ghost use Rattle.std.specs.List.{All, list_all};
 ghost use Rattle.layout_model.specs.Honest.{holds_bytes, holder, is_owning, IsHonest};
-ghost use Rattle.layout_model.specs.Lies.{in_span, range_lies, prim_lies, pointer_lies, field_lies, selector_lies, enum_lies, def_lies, lies, honest_selector, honest_variants, honest_type};
+ghost use Rattle.layout_model.specs.Law5.{HasFitNumbers};
+ghost use Rattle.layout_model.specs.Law7.{VariantsApart, HasPartsApart};
+ghost use Rattle.layout_model.specs.Lies.{in_span, range_lies, prim_lies, pointer_lies, is_array, plain_holder, field_lies, selector_lies, enum_lies, def_lies, lies, honest_selector, honest_variants, honest_type};
+ghost use Rattle.layout_model.specs.Overlap.{AreApart, spans_of};
+ghost use Rattle.layout_model.specs.Primitives.{is_whole};
 ghost use Rattle.layout_model.specs.Laws.{IsLawful};
 ghost use Rattle.layout_model.specs.Sizes.{AreSmall};
 
@@ -68,18 +72,35 @@ fn holds_bytes(types: &[TypeDef], width: u32, off: u32, field: &Field) -> bool
     requires { AreSmall types.now }
     ensures { result ≡ holds_bytes types.now width off field.now }
 {
+    if field.off > off {
+        return false;
+    }
     let size = u64::from(small_size(types, field.ty));
-    let end = u64::from(off) + u64::from(width);
-    field.off <= off && end <= u64::from(field.off) + size
+    u64::from(off) + u64::from(width) <= u64::from(field.off) + size
 }
 
-/// The field that has all of the bytes.
-fn holder<'a>(types: &[TypeDef], width: u32, off: u32, fields: &'a [Field]) -> Option<&'a Field>
+fn is_array(types: &[TypeDef], ty: TypeRef) -> bool
+    ensures { result ≡ is_array types.now ty }
+{
+    let TypeRef::User(i) = ty else {
+        return false;
+    };
+    matches!(types.get(i as usize), Some(TypeDef::Array { .. }))
+}
+
+/// The field that has all of the bytes and is no array. No tag lies on an array, and sizes of
+/// arrays of arrays take long.
+fn plain_holder<'a>(
+    types: &[TypeDef],
+    width: u32,
+    off: u32,
+    fields: &'a [Field],
+) -> Option<&'a Field>
     requires { AreSmall types.now }
-    ensures { option_copied result ≡ holder types.now width off fields.now }
+    ensures { option_copied result ≡ plain_holder types.now width off fields.now }
 {
     for field in fields {
-        if holds_bytes(types, width, off, field) {
+        if !is_array(types, field.ty) && holds_bytes(types, width, off, field) {
             return Some(field);
         }
     }
@@ -99,7 +120,9 @@ fn cases_lie(niche: Niche, cases: &[Case]) -> bool
 #[cycle(lying)]
 #[tactic(auto, unfolding(crate::specs::Lies::lies))]
 fn lies(types: &[TypeDef], niche: Niche, ty: TypeRef, off: u32, most: u32) -> bool
-    requires { AreSmall types.now }
+    requires small { AreSmall types.now }
+    requires apart { All (HasPartsApart types.now) types.now }
+    requires wide { 0 < niche.width }
     ensures { result ≡ lies most types.now niche ty off }
 {
     if most == 0 {
@@ -115,8 +138,12 @@ fn lies(types: &[TypeDef], niche: Niche, ty: TypeRef, off: u32, most: u32) -> bo
 }
 
 #[cycle(lying)]
+#[tactic(auto, unfolding(crate::specs::Law7::HasPartsApart))]
 fn def_lies(types: &[TypeDef], niche: Niche, def: &TypeDef, off: u32, most: u32) -> bool
-    requires { AreSmall types.now }
+    requires small { AreSmall types.now }
+    requires apart { All (HasPartsApart types.now) types.now }
+    requires wide { 0 < niche.width }
+    requires parts { HasPartsApart types.now def.now }
     ensures { result ≡ def_lies (lies most types.now niche) types.now niche off def.now }
 {
     match def {
@@ -147,7 +174,10 @@ fn enum_lies(
     variants: &[Variant],
     most: u32,
 ) -> bool
-    requires { AreSmall types.now }
+    requires small { AreSmall types.now }
+    requires apart { All (HasPartsApart types.now) types.now }
+    requires wide { 0 < niche.width }
+    requires parts { VariantsApart types.now variants.now }
     ensures { result ≡ enum_lies (lies most types.now niche) types.now niche off tag variants.now }
 {
     match tag {
@@ -162,7 +192,10 @@ fn enum_lies(
 
 #[cycle(lying)]
 fn variants_lie(types: &[TypeDef], niche: Niche, off: u32, variants: &[Variant], most: u32) -> bool
-    requires { AreSmall types.now }
+    requires small { AreSmall types.now }
+    requires apart { All (HasPartsApart types.now) types.now }
+    requires wide { 0 < niche.width }
+    requires parts { VariantsApart types.now variants.now }
     ensures { result ≡ list_all (λ v. selector_lies (lies most types.now niche) types.now niche off v.sel v.fields) variants.now }
 {
     for variant in variants {
@@ -175,7 +208,10 @@ fn variants_lie(types: &[TypeDef], niche: Niche, off: u32, variants: &[Variant],
 
 #[cycle(lying)]
 fn variant_lies(types: &[TypeDef], niche: Niche, off: u32, variant: &Variant, most: u32) -> bool
-    requires { AreSmall types.now }
+    requires small { AreSmall types.now }
+    requires apart { All (HasPartsApart types.now) types.now }
+    requires wide { 0 < niche.width }
+    requires parts { AreApart (spans_of types.now variant.now.fields) }
     ensures { result ≡ selector_lies (lies most types.now niche) types.now niche off variant.now.sel variant.now.fields }
 {
     match variant.sel {
@@ -186,18 +222,26 @@ fn variant_lies(types: &[TypeDef], niche: Niche, off: u32, variant: &Variant, mo
 }
 
 #[cycle(lying)]
+#[tactic(auto, using(crate::proofs::Holders::plain_lies))]
 fn fields_lie(types: &[TypeDef], niche: Niche, off: u32, fields: &[Field], most: u32) -> bool
-    requires { AreSmall types.now }
+    requires small { AreSmall types.now }
+    requires apart { All (HasPartsApart types.now) types.now }
+    requires wide { 0 < niche.width }
+    requires parts { AreApart (spans_of types.now fields.now) }
     ensures { result ≡ field_lies (lies most types.now niche) off (holder types.now niche.width off fields.now) }
 {
-    match holder(types, niche.width, off, fields) {
+    match plain_holder(types, niche.width, off, fields) {
         Some(field) => lies(types, niche, field.ty, off.saturating_sub(field.off), most),
         None => false,
     }
 }
 
+#[tactic(auto, using(crate::proofs::Holders::whole_is_wide))]
 fn is_honest_variant(types: &[TypeDef], tag: Tag, variant: &Variant) -> bool
-    requires { AreSmall types.now }
+    requires small { AreSmall types.now }
+    requires apart { All (HasPartsApart types.now) types.now }
+    requires whole { IsTrue (is_whole tag.prim) }
+    requires parts { AreApart (spans_of types.now variant.now.fields) }
     ensures { result ≡ honest_selector types.now tag variant.now.sel variant.now.fields }
 {
     match variant.sel {
@@ -211,7 +255,10 @@ fn is_honest_variant(types: &[TypeDef], tag: Tag, variant: &Variant) -> bool
 }
 
 fn are_honest_variants(types: &[TypeDef], tag: Tag, variants: &[Variant]) -> bool
-    requires { AreSmall types.now }
+    requires small { AreSmall types.now }
+    requires apart { All (HasPartsApart types.now) types.now }
+    requires whole { IsTrue (is_whole tag.prim) }
+    requires parts { VariantsApart types.now variants.now }
     ensures { result ≡ list_all (λ v. honest_selector types.now tag v.sel v.fields) variants.now }
 {
     for variant in variants {
@@ -222,8 +269,12 @@ fn are_honest_variants(types: &[TypeDef], tag: Tag, variants: &[Variant]) -> boo
     true
 }
 
+#[tactic(auto, unfolding(crate::specs::Law5::HasFitNumbers, crate::specs::Law7::HasPartsApart))]
 fn is_honest_type(types: &[TypeDef], def: &TypeDef) -> bool
-    requires { AreSmall types.now }
+    requires small { AreSmall types.now }
+    requires apart { All (HasPartsApart types.now) types.now }
+    requires fit { HasFitNumbers def.now }
+    requires parts { HasPartsApart types.now def.now }
     ensures { result ≡ honest_type types.now def.now }
 {
     match def {
@@ -237,7 +288,9 @@ fn is_honest_type(types: &[TypeDef], def: &TypeDef) -> bool
 }
 
 fn are_honest(types: &[TypeDef]) -> bool
-    requires { AreSmall types.now }
+    requires small { AreSmall types.now }
+    requires apart { All (HasPartsApart types.now) types.now }
+    requires fit { All HasFitNumbers types.now }
     ensures { result ≡ list_all (honest_type types.now) types.now }
 {
     for def in types {

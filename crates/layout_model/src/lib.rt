@@ -5,7 +5,6 @@ mod breach;
 mod checks;
 mod counts;
 mod cv_lengths;
-mod cv_text;
 mod extents;
 mod honesty;
 mod leaps;

@@ -18,7 +18,7 @@ use crate::spelled::{cv_bytes, name_of, rust_bytes};
 use crate::told::{first_told_again, told_texts};
 use rv_io::Memory;
 use std::alloc::Global;
-use type_names::Name;
+use type_names::{Name, one_rust_name};
 
 const MOST_BYTES: usize = 1000;
 
@@ -139,6 +139,8 @@ fn first_named_ill(alloc: Global, types: &[TypeDef]) -> Result<Option<usize>, Me
     requires { AreNamed types.now }
     ensures { IfOk result (IsFirst (λ i. HoldsAt HasGoodName types.now i × IsNewName types.now i) (length types.now)) }
 {
+    // Names are told apart by their texts.
+    one_rust_name();
     let misnamed = first_misnamed(alloc, types)?;
     let texts = told_texts(alloc, types)?;
     let again = first_told_again(alloc, texts.as_slice())?;

@@ -4,11 +4,10 @@ ghost use Rattle.type_names.specs.RustText.{rust_text};
 ghost use Rattle.type_names.specs.CvText.{cv_text};
 ghost use Rattle.layout_model.specs.DerivedNames.{name_of};
 
-use crate::cv_text::put_name;
 use crate::set::TypeDef;
 use rv_io::{Buf, Memory};
 use std::alloc::Global;
-use type_names::{Name, rust_spelling};
+use type_names::{Name, cv_spelling, rust_spelling};
 
 /// The name that a type is given.
 pub(crate) fn name_of(def: &TypeDef) -> Option<&Name>
@@ -40,6 +39,6 @@ pub(crate) fn cv_bytes(alloc: Global, name: &Name) -> Result<Vec<u8>, Memory>
     ensures { IfOk result (λ v. v.items ≡ cv_text name.now) }
 {
     let mut out = Buf::new(alloc);
-    put_name(name, &mut out)?;
+    cv_spelling(name, &mut out)?;
     Ok(out.into_vec())
 }

@@ -1,4 +1,4 @@
-use Rattle.std.proofs.Common.{[], ◌∷◌, Ok, Err}
+use Rattle.std.proofs.Common.{[], ◌∷◌, Err}
 use Rattle.std.proofs.lemmas.Result.{err_from_is_err_and}
 use Rattle.layout_model.specs.Law1.{Law1}
 use Rattle.layout_model.specs.Law2.{Law2}

@@ -1,6 +1,5 @@
 use Rattle.std.proofs.Common.{◌≡◌, ◌<◌, ◌∙◌, sym, ap, Some, None, slice_get, arith}
 use Rattle.std.proofs.lemmas.Option.{slice_get-get_or, slice_get_past}
-use Rattle.layout_model.specs.Lies.{lies}
 use Rattle.layout_model.proofs.Lying.{lies_user}
 use Rattle.layout_model.proofs.honesty.+lying.Goals as goal
 

@@ -1,4 +1,4 @@
-use Rattle.std.proofs.Common.{◌≡◌, ◌+◌, ◌≤◌, ◌∙◌, sym, ap, map, arith}
+use Rattle.std.proofs.Common.{◌≡◌, ◌≤◌, ◌∙◌, sym, ap, map, arith}
 use Rattle.layout_model.specs.Heights.{heights, step}
 use Rattle.layout_model.proofs.Chained.{settled}
 use Rattle.layout_model.proofs.nesting.all_heights.Goals as goal

@@ -1,4 +1,4 @@
-use Rattle.std.proofs.Common.{ℕ, ◌+◌, ◌<◌, length, arith}
+use Rattle.std.proofs.Common.{◌+◌, ◌<◌, length, arith}
 use Rattle.std.proofs.lemmas.Grind.{common_steps}
 use Rattle.layout_model.proofs.SortedNumbers.{span_of_ends}
 use Rattle.layout_model.proofs.numbers.is_span_of.Goals as goal

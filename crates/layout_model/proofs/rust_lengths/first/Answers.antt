@@ -1,6 +1,4 @@
-use Rattle.std.proofs.Common.{◌∙◌, sym, ap, min, subst}
-use Rattle.type_names.specs.RustText.{rust_text}
-use Rattle.layout_model.specs.declared.leaps.Leap.{Leap}
+use Rattle.std.proofs.Common.{◌∙◌}
 use Rattle.layout_model.proofs.RustLinks.{function_first}
 use Rattle.layout_model.proofs.rust_lengths.first.Goals as goal
 

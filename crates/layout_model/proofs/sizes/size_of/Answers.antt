@@ -1,5 +1,3 @@
-use Rattle.std.proofs.Common.{◌∙◌, subst}
-use Rattle.layout_model.specs.Sizes.{AreSmall, IsSizeOf, size}
 use Rattle.layout_model.proofs.SizeSteps.{are_small}
 use Rattle.layout_model.proofs.SizeLevels.{size_is}
 use Rattle.layout_model.proofs.sizes.size_of.Goals as goal

@@ -1,4 +1,3 @@
-use Rattle.layout_model.specs.HasSizes.{HasSizes}
 use Rattle.layout_model.specs.Laws.{sound_laws}
 use Rattle.layout_model.proofs.tests.sound_size.Goals as goal
 
