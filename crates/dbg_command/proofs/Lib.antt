@@ -1,9 +1,5 @@
-pub mod Near
-pub mod Declarations
-pub mod Statics
-pub mod Numbers
+pub mod Bounded
 pub mod Text
 pub mod Printed
 pub mod Endings
-pub mod Refusals
 pub mod Puts

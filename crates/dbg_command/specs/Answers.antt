@@ -1,26 +1,28 @@
 -- What the words and the files lead to: a status, an output and a message.
-use Rattle.std.specs.Prelude.{◌≡◌, ℕ, nat_lt, ◌&&◌, List, [], ◌∷◌, ◌++◌, length, Option, Some, None, Result, Ok, Err, codes, if◌then◌else◌, Bool, true, false, ◌⊎◌}
-use Rattle.std.specs.Str.{bytes_eq, is_utf8}
+use Rattle.std.specs.Prelude.{◌≡◌, ℕ, nat_lt, List, [], length, Option, Some, None, Result, Ok, Err, codes, Bool, true, false}
+use Rattle.std.specs.Bool.{Decides}
 use Rattle.rv_io.specs.Files.{Files, file}
+use Rattle.layout_model.specs.declared.set.Set.{Set}
+use Rattle.layout_model.specs.declared.breach.CheckErr.{CheckErr}
+use Rattle.layout_model.specs.declared.breach.CheckErr.TheVariants as checks
+use Rattle.layout_model.specs.FirstBreach.{Checked}
+use Rattle.layout_model.specs.Laws.{laws}
+use Rattle.layout_model.specs.Honest.{IsHonest}
+use Rattle.layout_file.specs.declared.layout_err.LayoutErr.{LayoutErr}
+use Rattle.layout_file.specs.declared.layout_err.LayoutErr.TheVariants as layouts
+use Rattle.layout_file.specs.Claims.{IsReading}
 use Rattle.snapshot_file.specs.declared.snapshot.Snapshot.{Snapshot}
 use Rattle.snapshot_file.specs.declared.fault.SnapErr.{SnapErr}
 use Rattle.snapshot_file.specs.declared.fault.SnapErr.TheVariants as snaps
 use Rattle.snapshot_file.specs.Snapshots.{Spells}
 use Rattle.snapshot_file.specs.Reading.{snapshot_of}
-use Rattle.dbg_command.specs.Stops.{line, numbers_line, overlap_line}
-use Rattle.dbg_command.specs.declared.prim_static.PrimStatic.{PrimStatic}
-use Rattle.dbg_command.specs.Layouts.{Declares}
+use Rattle.dbg_command.specs.Forms.{Form, check, text, form_of, layout_name}
+use Rattle.dbg_command.specs.Stops.{line, number_line, numbers_line, count_word, breach_line}
 use Rattle.dbg_command.specs.Lines.{Prints}
 
 -- a status, an output and a message
 abbrev pub Ending : Type 1
 Ending = ℕ → List ℕ → List ℕ → Type 0
-
--- `text L S`, with the names of the two files; a word that isn't UTF-8 fits no form
-abbrev pub form_of : List (List ℕ) → Option (List ℕ × List ℕ)
-form_of (command ∷ layout ∷ snapshot ∷ []) =
-    if bytes_eq command (codes "text") && is_utf8 layout && is_utf8 snapshot then Some (layout, snapshot) else None
-form_of _ = None
 
 -- a status without output, and its message
 abbrev pub Refuses : ℕ → List ℕ → Ending
@@ -29,20 +31,19 @@ Refuses code said status output message = (status ≡ code) × (output ≡ []) �
 abbrev pub NotYet : Ending
 NotYet = Refuses 1 (line (codes "rdbg: not yet") [])
 
--- a file that is longer than its limit has not the form that is read
-abbrev pub WithinLimit : Bool → Ending → Ending
-WithinLimit true Next = NotYet
-WithinLimit false Next = Next
+-- status 0, and this output
+abbrev pub Puts : List ℕ → Ending
+Puts whole status output message = (status ≡ 0) × (output ≡ whole) × (message ≡ [])
+
+-- the file is no longer than its limit, and is read further
+abbrev pub WithinLimit : List ℕ → Bool → Ending → Ending
+WithinLimit name true Next = Refuses 1 (line (codes "rdbg: too many bytes ") name)
+WithinLimit name false Next = Next
 
 -- the file is there, within its limit, and is read further
 abbrev pub WithFile : List ℕ → ℕ → (List ℕ → Ending) → Option (List ℕ) → Ending
 WithFile name limit Next None = Refuses 1 (line (codes "rdbg: cannot open ") name)
-WithFile name limit Next (Some bytes) = WithinLimit (nat_lt limit (length bytes)) (Next bytes)
-
--- the file says one thing, from which it goes on, or it says none and has not the form that is read
-abbrev pub WhereSaid : {A : Type 0} → (A → Type 0) → (A → Ending) → Ending
-WhereSaid {A} Says Next status output message =
-    ((a : A) × Says a × Next a status output message) ⊎ (((a : A) → ¬ (Says a)) × NotYet status output message)
+WithFile name limit Next (Some bytes) = WithinLimit name (nat_lt limit (length bytes)) (Next bytes)
 
 -- what the bytes of a snapshot are: the one snapshot that they spell, or the first fault
 abbrev pub IsSnapshotRead : List ℕ → Result Snapshot SnapErr → Type 0
@@ -51,25 +52,59 @@ IsSnapshotRead bytes (Err snaps.Memory) = ⊥
 IsSnapshotRead bytes (Err e) = snapshot_of bytes ≡ Err e
 
 -- the lines of the statics over the snapshot, or its first fault
-abbrev pub OfSnapshot : List PrimStatic → Result Snapshot SnapErr → Ending
-OfSnapshot statics (Ok snap) status output message = (status ≡ 0) × Prints statics snap output × (message ≡ [])
-OfSnapshot statics (Err (snaps.BadLine n rule)) status output message = Refuses 1 (numbers_line (codes "rdbg: snapshot line ") n (codes " rule ") rule) status output message
-OfSnapshot statics (Err (snaps.Overlap n)) status output message = Refuses 1 (overlap_line n) status output message
-OfSnapshot statics (Err snaps.Memory) status output message = ⊥
+abbrev pub OfSnapshot : Set → ℕ → ℕ → Result Snapshot SnapErr → Ending
+OfSnapshot set depth width (Ok snap) status output message = (status ≡ 0) × Prints set depth width snap output × (message ≡ [])
+OfSnapshot set depth width (Err (snaps.BadLine n rule)) status output message = Refuses 1 (numbers_line (codes "rdbg: snapshot line ") n (codes " rule ") rule) status output message
+OfSnapshot set depth width (Err (snaps.Overlap n)) status output message = Refuses 1 (number_line (codes "rdbg: snapshot overlap ") n []) status output message
+OfSnapshot set depth width (Err snaps.Memory) status output message = ⊥
 
 -- the bytes of the second file
-abbrev pub WithSnapshot : List PrimStatic → List ℕ → Ending
-WithSnapshot statics bytes status output message = (r : Result Snapshot SnapErr) × IsSnapshotRead bytes r × OfSnapshot statics r status output message
+abbrev pub WithSnapshot : Set → ℕ → ℕ → List ℕ → Ending
+WithSnapshot set depth width bytes status output message = (r : Result Snapshot SnapErr) × IsSnapshotRead bytes r × OfSnapshot set depth width r status output message
 
 -- the second file has at most 64 MiB
-abbrev pub OfLayout : List PrimStatic → List ℕ → Files → Ending
-OfLayout statics snapshot files = WithFile snapshot 67108864 (WithSnapshot statics) (file files snapshot)
+abbrev pub OfText : Set → ℕ → ℕ → List ℕ → Files → Ending
+OfText set depth width snapshot files = WithFile snapshot 67108864 (WithSnapshot set depth width) (file files snapshot)
 
--- the first file: at most 16 MiB, and a layout
-abbrev pub OfForm : Option (List ℕ × List ℕ) → Files → Ending
+abbrev pub honesty_text : Bool → List ℕ
+honesty_text true = codes "lawful\nhonest yes\n"
+honesty_text false = codes "lawful\nhonest no\n"
+
+-- whether the set is honest
+abbrev pub OfCheck : Set → Ending
+OfCheck set status output message = (honest : Bool) × Decides honest (IsHonest set) × Puts (honesty_text honest) status output message
+
+-- what is answered of a lawful set
+abbrev pub OfLawful : Form → Files → Set → Ending
+OfLawful (check layout) files set = OfCheck set
+OfLawful (text layout snapshot depth width) files set = OfText set depth width snapshot files
+
+-- the set is lawful, or its first breach is told
+abbrev pub OfLaws : Form → Files → Set → Result (Unit {0}) CheckErr → Ending
+OfLaws form files set (Ok t) status output message = OfLawful form files set status output message
+OfLaws form files set (Err (checks.Breach law at)) status output message = Refuses 1 (breach_line law at) status output message
+OfLaws form files set (Err checks.Memory) status output message = ⊥
+
+-- the set of the first file
+abbrev pub OfSet : Form → Files → Set → Ending
+OfSet form files set status output message = (r : Result (Unit {0}) CheckErr) × Checked set (laws set) r × OfLaws form files set r status output message
+
+-- the first file spells a set, or its first fault is told
+abbrev pub OfRead : Form → Files → Result Set LayoutErr → Ending
+OfRead form files (Ok set) status output message = OfSet form files set status output message
+OfRead form files (Err (layouts.BadLine n rule)) status output message = Refuses 1 (numbers_line (codes "rdbg: layout line ") n (codes " rule ") rule) status output message
+OfRead form files (Err (layouts.Limit which)) status output message = Refuses 1 (line (codes "rdbg: layout limit ") (count_word which)) status output message
+OfRead form files (Err layouts.NotYet) status output message = NotYet status output message
+OfRead form files (Err layouts.Memory) status output message = ⊥
+
+-- the bytes of the first file
+abbrev pub OfBytes : Form → Files → List ℕ → Ending
+OfBytes form files bytes status output message = (r : Result Set LayoutErr) × IsReading bytes r × OfRead form files r status output message
+
+-- the first file has at most 16 MiB
+abbrev pub OfForm : Option Form → Files → Ending
 OfForm None files = Refuses 2 (line (codes "rdbg: usage") [])
-OfForm (Some names) files =
-    WithFile names.0 16777216 (λ bytes. WhereSaid (Declares bytes) (λ statics. OfLayout statics names.1 files)) (file files names.0)
+OfForm (Some form) files = WithFile (layout_name form) 16777216 (OfBytes form files) (file files (layout_name form))
 
 abbrev pub Answers : List (List ℕ) → Files → Ending
 Answers words files = OfForm (form_of words) files

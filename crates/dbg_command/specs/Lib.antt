@@ -1,6 +1,4 @@
-pub mod Images
-pub mod Layouts
-pub mod StaticOf
+pub mod Forms
 pub mod Stops
 pub mod Runs
 pub mod Progress

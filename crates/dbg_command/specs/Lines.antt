@@ -1,40 +1,48 @@
 -- The printed lines.
-use Rattle.std.specs.Prelude.{◌≡◌, ℕ, List, [], ◌∷◌, ◌++◌, IsTrue, codes}
+use Rattle.std.specs.Prelude.{◌≡◌, ℕ, List, [], ◌∷◌, ◌++◌, Option, Some, None, codes}
 use Rattle.readers.specs.Hex.{hex_text}
-use Rattle.snapshot_file.specs.Memory.{Run, items_at}
+use Rattle.snapshot_file.specs.Memory.{items_at}
 use Rattle.snapshot_file.specs.declared.snapshot.Snapshot.{Snapshot}
 use Rattle.rust_value.specs.Texts.{text_of}
-use Rattle.rust_value.specs.Utf8.{has_texts}
-use Rattle.dbg_command.specs.declared.prim_static.PrimStatic.{PrimStatic}
-use Rattle.dbg_command.specs.declared.outcome.Outcome.{Outcome}
-use Rattle.dbg_command.specs.declared.outcome.Outcome.TheVariants as outcomes
-use Rattle.layout_model.specs.Primitives.{prim_bytes}
-use Rattle.dbg_command.specs.Images.{IsOutcome}
+use Rattle.type_names.specs.RustText.{rust_text}
+use Rattle.layout_model.specs.declared.set.Set.{Set}
+use Rattle.layout_model.specs.declared.set.TypeRef.{TypeRef}
+use Rattle.layout_model.specs.declared.set.Static.{Static}
+use Rattle.layout_model.specs.declared.outcome.Outcome.{Outcome}
+use Rattle.layout_model.specs.declared.outcome.Outcome.TheVariants.{Value, Unavailable, Invalid, TooLarge}
+use Rattle.layout_model.specs.Contexts.{Context, context_of}
+use Rattle.layout_model.specs.Outcomes.{IsOutcome}
+use Rattle.layout_model.specs.Sizes.{size}
 
 -- what stands behind the ` = `
 abbrev pub outcome_text : Outcome → List ℕ
-outcome_text outcomes.Unavailable = codes "<unavailable>"
-outcome_text outcomes.Invalid = codes "<invalid>"
-outcome_text (outcomes.Value v) = text_of v
+outcome_text Unavailable = codes "<unavailable>"
+outcome_text Invalid = codes "<invalid>"
+outcome_text TooLarge = codes "<too large>"
+outcome_text (Value v) = text_of v
 
--- the texts in the value, if there is one, are UTF-8
-abbrev pub HasTexts : Outcome → Type 0
-HasTexts (outcomes.Value v) = IsTrue (has_texts v)
-HasTexts _ = Unit {0}
+-- what is shown of a static of this type at this address: that of the bytes there; those of one without an address are missing
+abbrev pub IsShownAt : Context → ℕ → TypeRef → Option ℕ → Outcome → Type 0
+IsShownAt c depth ty (Some at) o = IsOutcome c depth ty (items_at c.memory at (size c.types ty)) o
+IsShownAt c depth ty None o = o ≡ Unavailable
 
-abbrev pub static_line : PrimStatic → Outcome → List ℕ
-static_line s o = codes "static " ++ s.name ++ codes " = " ++ outcome_text o ++ 10 ∷ []
+abbrev pub static_line : Static → Outcome → List ℕ
+static_line s o = codes "static " ++ rust_text s.name ++ codes " = " ++ outcome_text o ++ 10 ∷ []
 
--- a line for each static, in order, with the outcome of the bytes at its address
-abbrev pub AreStaticLines : List PrimStatic → List Run → List ℕ → Type 0
-AreStaticLines [] memory text = text ≡ []
-AreStaticLines (s ∷ statics) memory text =
-    (o : Outcome) × (rest : List ℕ)
-    × IsOutcome s.prim (items_at memory s.addr (prim_bytes s.prim)) o × (text ≡ static_line s o ++ rest) × AreStaticLines statics memory rest
+-- the line of the static, with the outcome of the bytes at its address
+abbrev pub IsStaticLine : Context → ℕ → Static → List ℕ → Type 0
+IsStaticLine c depth s line = (o : Outcome) × IsShownAt c depth s.ty s.addr o × (line ≡ static_line s o)
+
+-- a line for each static, in order
+abbrev pub AreStaticLines : Context → ℕ → List Static → List ℕ → Type 0
+AreStaticLines c depth [] text = text ≡ []
+AreStaticLines c depth (s ∷ statics) text =
+    (line rest : List ℕ) × IsStaticLine c depth s line × (text ≡ line ++ rest) × AreStaticLines c depth statics rest
 
 abbrev pub pc_line : ℕ → List ℕ
 pc_line pc = codes "pc " ++ hex_text pc ++ 10 ∷ []
 
--- all that is printed
-abbrev pub Prints : List PrimStatic → Snapshot → List ℕ → Type 0
-Prints statics snap text = (rest : List ℕ) × (text ≡ pc_line snap.pc ++ rest) × AreStaticLines statics snap.mem rest
+-- all that is printed, where pointers are followed so deep and of each sequence so many elements are shown
+abbrev pub Prints : Set → ℕ → ℕ → Snapshot → List ℕ → Type 0
+Prints set depth width snap text =
+    (rest : List ℕ) × (text ≡ pc_line snap.pc ++ rest) × AreStaticLines (context_of set snap.mem width) depth set.statics rest

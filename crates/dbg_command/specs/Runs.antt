@@ -41,7 +41,7 @@ HasFile told name P = IfSome told (λ files. (bytes : List ℕ) × (file files n
 -- what fetching a file within its limit gives
 abbrev pub Fetched : Option Files → Bor (List ℕ) → ℕ → ℕ → ℕ → Result (List ℕ) Stop → Type 0
 Fetched told name limit before now (Ok found) = HasFile told name.now (λ bytes. (bytes ≡ found) × (length bytes ≤ limit))
-Fetched told name limit before now (Err stops.NotYet) = HasFile told name.now (λ bytes. limit < length bytes)
+Fetched told name limit before now (Err (stops.TooManyBytes n)) = (n ≡ name) × HasFile told name.now (λ bytes. limit < length bytes)
 Fetched told name limit before now (Err (stops.CannotOpen n)) = (n ≡ name) × IfSome told (λ files. file files name.now ≡ None)
 Fetched told name limit before now (Err stops.ReadFault) = Rose before now
 Fetched told name limit before now (Err stops.Memory) = ⊤

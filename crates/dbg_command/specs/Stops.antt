@@ -1,5 +1,9 @@
 -- The statuses and the messages of runs that end without an answer.
 use Rattle.std.specs.Prelude.{ℕ, List, [], ◌∷◌, ◌++◌, codes, decimal}
+use Rattle.layout_model.specs.declared.breach.Item.{Item}
+use Rattle.layout_model.specs.declared.breach.Item.TheVariants.{Whole, Def, Static}
+use Rattle.layout_file.specs.declared.layout_err.Count.{Count}
+use Rattle.layout_file.specs.declared.layout_err.Count.TheVariants.{Types, Parts, Variables}
 use Rattle.dbg_command.specs.declared.stop.Stop.{Stop}
 use Rattle.dbg_command.specs.declared.stop.Stop.TheVariants as stops
 
@@ -14,19 +18,36 @@ status_of _ = 1
 abbrev pub line : List ℕ → List ℕ → List ℕ
 line front text = front ++ text ++ 10 ∷ []
 
+-- a message of a text, a number and a text
+abbrev pub number_line : List ℕ → ℕ → List ℕ → List ℕ
+number_line front n back = front ++ decimal n ++ back ++ 10 ∷ []
+
 -- a message of a text, a number, a text and a number
 abbrev pub numbers_line : List ℕ → ℕ → List ℕ → ℕ → List ℕ
 numbers_line front first between second = front ++ decimal first ++ between ++ decimal second ++ 10 ∷ []
 
-abbrev pub overlap_line : ℕ → List ℕ
-overlap_line n = codes "rdbg: snapshot overlap " ++ decimal n ++ [] ++ 10 ∷ []
+-- what a layout has too many of
+abbrev pub count_word : Count → List ℕ
+count_word Types = codes "types"
+count_word Parts = codes "parts"
+count_word Variables = codes "variables"
+
+-- the law that fails, and the first item of which it is false
+abbrev pub breach_line : ℕ → Item → List ℕ
+breach_line law Whole = number_line (codes "rdbg: breach law ") law (codes " at set")
+breach_line law (Def i) = numbers_line (codes "rdbg: breach law ") law (codes " at type ") i
+breach_line law (Static i) = numbers_line (codes "rdbg: breach law ") law (codes " at static ") i
 
 abbrev pub message : Stop → List ℕ
 message stops.Usage = line (codes "rdbg: usage") []
 message stops.NotYet = line (codes "rdbg: not yet") []
+message (stops.LayoutLine n rule) = numbers_line (codes "rdbg: layout line ") n (codes " rule ") rule
+message (stops.LayoutLimit which) = line (codes "rdbg: layout limit ") (count_word which)
+message (stops.Breach law at) = breach_line law at
 message (stops.SnapshotLine n rule) = numbers_line (codes "rdbg: snapshot line ") n (codes " rule ") rule
-message (stops.SnapshotOverlap n) = overlap_line n
+message (stops.SnapshotOverlap n) = number_line (codes "rdbg: snapshot overlap ") n []
 message (stops.CannotOpen name) = line (codes "rdbg: cannot open ") name.now
+message (stops.TooManyBytes name) = line (codes "rdbg: too many bytes ") name.now
 message stops.ReadFault = line (codes "rdbg: read fault") []
 message stops.WriteFault = line (codes "rdbg: write fault") []
 message stops.Memory = line (codes "rdbg: out of memory") []

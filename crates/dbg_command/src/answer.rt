@@ -1,15 +1,17 @@
 //! The answer to the words of a command line.
-ghost use Rattle.std.specs.Prelude.{◌≡◌, ◌≤◌, ◌<◌, ℕ, length, Some, None, IsSome, if◌then◌else◌};
-ghost use Rattle.std.specs.Option.{option_map, option_copied};
-ghost use Rattle.std.specs.Str.{is_utf8};
-ghost use Rattle.dbg_command.specs.Answers.{form_of, Answers, OfForm, OfLayout};
+ghost use Rattle.std.specs.Prelude.{◌≡◌, ◌≤◌, ◌<◌, [], Some, IsSome, IfOk};
+ghost use Rattle.layout_model.specs.Laws.{IsLawful};
+ghost use Rattle.layout_model.specs.Law10.{IsSet};
+ghost use Rattle.dbg_command.specs.Forms.{form_of, named, IsShallow};
+ghost use Rattle.dbg_command.specs.Answers.{Answers, OfForm, OfSet, OfLawful, OfCheck, OfText, honesty_text};
 ghost use Rattle.dbg_command.specs.Runs.{Gives, Fetched, IsReadFault};
 
-use crate::layout::read_layout;
+use crate::form::{Form, form_of, layout_name};
 use crate::lines::put_lines;
-use crate::prim_static::PrimStatic;
 use crate::stop::Stop;
-use rv_io::{Buf, FetchErr, Inputs, Text};
+use layout_file::LayoutErr;
+use layout_model::{CheckErr, Set, is_honest};
+use rv_io::{Buf, FetchErr, Inputs, Memory, Text};
 use snapshot_file::SnapErr;
 use std::alloc::Global;
 
@@ -30,61 +32,101 @@ pub fn answer<'a, I: Inputs>(
     ensures later { I.faults inputs.old ≤ I.faults inputs.new }
 {
     match form_of(words) {
-        Some((layout, snapshot)) => of_form(alloc, layout, snapshot, inputs),
+        Some(form) => of_form(alloc, form, inputs),
         None => Err(Stop::Usage),
     }
 }
 
-/// The names of the two files of `text L S`.
-fn form_of(words: &[Text]) -> Option<(&str, &str)>
-    ensures { option_map (λ p. (p.0.now, p.1.now)) result ≡ form_of words.now }
-{
-    let [command, layout, snapshot] = words else {
-        return None;
-    };
-    if command.as_bytes() != b"text".as_slice() {
-        return None;
-    }
-    let layout = utf8(layout.as_bytes())?;
-    let snapshot = utf8(snapshot.as_bytes())?;
-    Some((layout, snapshot))
-}
-
-/// The bytes as text, if they are UTF-8.
-fn utf8(bytes: &[u8]) -> Option<&str>
-    ensures { option_copied result ≡ (if is_utf8 bytes.now then Some bytes.now else None) }
-{
-    match str::from_utf8(bytes) {
-        Ok(text) => Some(text),
-        Err(_) => None,
-    }
-}
-
-/// The answer to `text L S`.
-fn of_form<'a, I: Inputs>(
-    alloc: Global,
-    layout: &'a str,
-    snapshot: &'a str,
-    inputs: &mut I,
-) -> Result<Buf, Stop<'a>>
-    ensures result { Gives (I.files inputs.old) (OfForm (Some (layout.entry.now, snapshot.entry.now))) (I.faults inputs.old) (I.faults inputs.new) result }
+/// The answer to words of this form.
+fn of_form<'a, I: Inputs>(alloc: Global, form: Form<'a>, inputs: &mut I) -> Result<Buf, Stop<'a>>
+    requires { IsShallow (named form) }
+    ensures result { Gives (I.files inputs.old) (OfForm (Some (named form.entry))) (I.faults inputs.old) (I.faults inputs.new) result }
     ensures later { I.faults inputs.old ≤ I.faults inputs.new }
 {
-    let bytes = fetch_file(alloc, inputs, layout, LAYOUT_LIMIT)?;
-    match read_layout(alloc, bytes.as_bytes())? {
-        Some(statics) => of_layout(alloc, statics.as_slice(), snapshot, inputs),
-        None => Err(Stop::NotYet),
+    let bytes = fetch_file(alloc, inputs, layout_name(form), LAYOUT_LIMIT)?;
+    match layout_file::read(alloc, bytes.as_bytes()) {
+        Ok(set) => of_set(alloc, form, &set, inputs),
+        Err(LayoutErr::BadLine { line, rule }) => Err(Stop::LayoutLine { line, rule }),
+        Err(LayoutErr::Limit { which }) => Err(Stop::LayoutLimit(which)),
+        Err(LayoutErr::NotYet) => Err(Stop::NotYet),
+        Err(LayoutErr::Memory) => Err(Stop::Memory),
     }
 }
 
-/// The lines of the statics over the second file.
-fn of_layout<'a, I: Inputs>(
+/// The answer over the set of the first file.
+fn of_set<'a, I: Inputs>(
     alloc: Global,
-    statics: &[PrimStatic],
-    snapshot: &'a str,
+    form: Form<'a>,
+    set: &Set,
     inputs: &mut I,
 ) -> Result<Buf, Stop<'a>>
-    ensures result { Gives (I.files inputs.old) (OfLayout statics.now snapshot.entry.now) (I.faults inputs.old) (I.faults inputs.new) result }
+    requires set { IsSet set.now }
+    requires shallow { IsShallow (named form) }
+    ensures result { Gives (I.files inputs.old) (λ files. OfSet (named form.entry) files set.now) (I.faults inputs.old) (I.faults inputs.new) result }
+    ensures later { I.faults inputs.old ≤ I.faults inputs.new }
+{
+    match layout_model::check(alloc, set) {
+        Ok(()) => of_lawful(alloc, form, set, inputs),
+        Err(CheckErr::Breach { law, at }) => Err(Stop::Breach { law, at }),
+        Err(CheckErr::Memory) => Err(Stop::Memory),
+    }
+}
+
+/// The answer over a lawful set.
+fn of_lawful<'a, I: Inputs>(
+    alloc: Global,
+    form: Form<'a>,
+    set: &Set,
+    inputs: &mut I,
+) -> Result<Buf, Stop<'a>>
+    requires lawful { IsLawful set.now }
+    requires shallow { IsShallow (named form) }
+    ensures result { Gives (I.files inputs.old) (λ files. OfLawful (named form.entry) files set.now) (I.faults inputs.old) (I.faults inputs.new) result }
+    ensures later { I.faults inputs.old ≤ I.faults inputs.new }
+{
+    match form {
+        Form::Check(_) => Ok(of_check(alloc, set)?),
+        Form::Text {
+            snapshot,
+            depth,
+            width,
+            ..
+        } => { of_text(alloc, set, snapshot, depth, width, inputs) }
+    }
+}
+
+/// What `check` answers of a lawful set.
+fn of_check(alloc: Global, set: &Set) -> Result<Buf, Memory>
+    requires { IsLawful set.now }
+    ensures { IfOk result (λ output. OfCheck set.now 0 output []) }
+{
+    let mut text = Buf::new(alloc);
+    text.put(honesty_text(is_honest(set)))?;
+    Ok(text)
+}
+
+/// The two lines of `check`.
+fn honesty_text(honest: bool) -> &'static [u8]
+    ensures { result.now ≡ honesty_text honest }
+{
+    match honest {
+        true => b"lawful\nhonest yes\n",
+        false => b"lawful\nhonest no\n",
+    }
+}
+
+/// What `text` answers of a lawful set.
+fn of_text<'a, I: Inputs>(
+    alloc: Global,
+    set: &Set,
+    snapshot: &'a str,
+    depth: u32,
+    width: u32,
+    inputs: &mut I,
+) -> Result<Buf, Stop<'a>>
+    requires lawful { IsLawful set.now }
+    requires shallow { depth ≤ 4 }
+    ensures result { Gives (I.files inputs.old) (OfText set.now depth width snapshot.entry.now) (I.faults inputs.old) (I.faults inputs.new) result }
     ensures later { I.faults inputs.old ≤ I.faults inputs.new }
 {
     let bytes = fetch_file(alloc, inputs, snapshot, SNAPSHOT_LIMIT)?;
@@ -95,7 +137,7 @@ fn of_layout<'a, I: Inputs>(
         Err(SnapErr::Memory) => return Err(Stop::Memory),
     };
     let mut text = Buf::new(alloc);
-    put_lines(statics, &snap, &mut text)?;
+    put_lines(set, &snap, depth, width, &mut text)?;
     Ok(text)
 }
 
@@ -114,7 +156,7 @@ fn fetch_file<'a, I: Inputs>(
     let mut bytes = Buf::new(alloc);
     match inputs.fetch(name, limit + 1, &mut bytes) {
         Ok(()) if bytes.as_bytes().len() <= limit => Ok(bytes),
-        Ok(()) => Err(Stop::NotYet),
+        Ok(()) => Err(Stop::TooManyBytes(name)),
         Err(FetchErr::NoFile) => Err(Stop::CannotOpen(name)),
         Err(FetchErr::Failed) => Err(Stop::ReadFault),
         Err(FetchErr::Memory) => Err(Stop::Memory),

@@ -1,7 +1,8 @@
 //! The top call.
 ghost use Rattle.std.specs.Prelude.{◌≡◌, ℕ, List, IsSome};
 ghost use Rattle.std.specs.Io.KnownBytes.{Appends};
-ghost use Rattle.dbg_command.specs.Answers.{Answers, form_of};
+ghost use Rattle.dbg_command.specs.Answers.{Answers};
+ghost use Rattle.dbg_command.specs.Forms.{form_of};
 ghost use Rattle.dbg_command.specs.Runs.{Ends, Says};
 
 use crate::answer::answer;

@@ -3,13 +3,9 @@
 
 mod answer;
 mod command;
-mod layout;
+mod form;
 mod lines;
-mod outcome;
-mod prim_static;
-mod static_line;
 mod stop;
-mod values;
 
 pub use command::{Words, run};
 

@@ -1,9 +1,11 @@
 //! Why a run ends without an answer, and how it says so.
 ghost use Rattle.std.specs.Prelude.{◌≡◌, ◌++◌, ◌∷◌, [], decimal};
-ghost use Rattle.dbg_command.specs.Stops.{status_of, message};
+ghost use Rattle.dbg_command.specs.Stops.{status_of, message, count_word, breach_line};
 ghost use Rattle.dbg_command.specs.Runs.{Says, joined};
 
 use itoa::Buffer;
+use layout_file::Count;
+use layout_model::Item;
 use rv_io::{Memory, Sink};
 
 /// Why a run ends without an answer.
@@ -11,14 +13,22 @@ use rv_io::{Memory, Sink};
 pub enum Stop<'a> {
     /// The words are none of the forms.
     Usage,
-    /// A file has not the form that is read.
+    /// The layout has functions, or a static of a user's type, which aren't read yet.
     NotYet,
+    /// A line of the layout, counted from 1, breaks a rule.
+    LayoutLine { line: u32, rule: u8 },
+    /// The layout has too many of these.
+    LayoutLimit(Count),
+    /// The set of the layout breaks a law, first at this item.
+    Breach { law: u8, at: Item },
     /// A line of the snapshot, counted from 1, breaks a rule.
     SnapshotLine { line: u32, rule: u8 },
     /// The memory on this line of the snapshot begins below the end of the memory before.
     SnapshotOverlap(u32),
     /// There is no file of this name.
     CannotOpen(&'a str),
+    /// The file of this name is longer than its limit.
+    TooManyBytes(&'a str),
     /// A read failed.
     ReadFault,
     /// A write failed.
@@ -43,8 +53,14 @@ pub fn status(stop: Stop<'_>) -> u8
 {
     match stop {
         Stop::Usage => 2,
-        Stop::NotYet | Stop::SnapshotLine { .. } | Stop::SnapshotOverlap(_) | Stop::CannotOpen(_) =>
-            1,
+        Stop::NotYet
+        | Stop::LayoutLine { .. }
+        | Stop::LayoutLimit(_)
+        | Stop::Breach { .. }
+        | Stop::SnapshotLine { .. }
+        | Stop::SnapshotOverlap(_)
+        | Stop::CannotOpen(_)
+        | Stop::TooManyBytes(_) => 1,
         Stop::ReadFault => 3,
         Stop::WriteFault => 4,
         Stop::Memory => 5,
@@ -58,6 +74,15 @@ pub fn tell<E: Sink>(err: &mut E, stop: Stop<'_>)
     match stop {
         Stop::Usage => tell_text(err, b"rdbg: usage", b""),
         Stop::NotYet => tell_text(err, b"rdbg: not yet", b""),
+        Stop::LayoutLine { line, rule } => tell_numbers(
+            err,
+            b"rdbg: layout line ",
+            line,
+            b" rule ",
+            u32::from(rule),
+        ),
+        Stop::LayoutLimit(which) => tell_text(err, b"rdbg: layout limit ", count_word(which)),
+        Stop::Breach { law, at } => tell_breach(err, u32::from(law), at),
         Stop::SnapshotLine { line, rule } => tell_numbers(
             err,
             b"rdbg: snapshot line ",
@@ -67,9 +92,33 @@ pub fn tell<E: Sink>(err: &mut E, stop: Stop<'_>)
         ),
         Stop::SnapshotOverlap(line) => tell_number(err, b"rdbg: snapshot overlap ", line, b""),
         Stop::CannotOpen(name) => tell_text(err, b"rdbg: cannot open ", name.as_bytes()),
+        Stop::TooManyBytes(name) => tell_text(err, b"rdbg: too many bytes ", name.as_bytes()),
         Stop::ReadFault => tell_text(err, b"rdbg: read fault", b""),
         Stop::WriteFault => tell_text(err, b"rdbg: write fault", b""),
         Stop::Memory => tell_text(err, b"rdbg: out of memory", b""),
+    }
+}
+
+/// What a layout has too many of.
+fn count_word(which: Count) -> &'static [u8]
+    ensures { result.now ≡ count_word which }
+{
+    match which {
+        Count::Types => b"types",
+        Count::Parts => b"parts",
+        Count::Variables => b"variables",
+    }
+}
+
+/// Puts the line of a law that fails, first at this item.
+fn tell_breach<E: Sink>(err: &mut E, law: u32, at: Item)
+    ensures { Says (E.written err.old) (E.written err.new) (E.faults err.old) (E.faults err.new) (breach_line law at) }
+{
+    let front = b"rdbg: breach law ";
+    match at {
+        Item::Whole => tell_number(err, front, law, b" at set"),
+        Item::Def(place) => tell_numbers(err, front, law, b" at type ", place),
+        Item::Static(place) => tell_numbers(err, front, law, b" at static ", place),
     }
 }
 

@@ -1,5 +1,6 @@
-use Rattle.std.proofs.Common.{◌≡◌, sym, inl, [], IsSome}
-use Rattle.dbg_command.specs.Answers.{Answers, form_of}
+use Rattle.std.proofs.Common.{inl, [], IsSome}
+use Rattle.dbg_command.specs.Answers.{Answers}
+use Rattle.dbg_command.specs.Forms.{form_of}
 use Rattle.dbg_command.specs.Stops.{message}
 use Rattle.dbg_command.proofs.Endings.{ends_stop, ends_done}
 use Rattle.rv_io.proofs.Fronts.{appends_nothing}

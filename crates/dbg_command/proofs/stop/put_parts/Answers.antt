@@ -1,4 +1,4 @@
-use Rattle.dbg_command.proofs.Puts.{put_more, put_failed, put_whole}
+use Rattle.dbg_command.proofs.Puts.{put_more, put_failed}
 use Rattle.dbg_command.proofs.stop.put_parts.Goals as goal
 
 pub returns-in_default : goal.returns-in_default

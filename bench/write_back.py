@@ -1,0 +1,103 @@
+#!/usr/bin/env python3
+"""Time and peak memory of reading layout files of n and 2n bytes, up to nearly 16 MiB, and of reading and writing them back.
+
+    bench/write_back.py [DIRECTORY]
+
+No command of rdbg writes layouts yet. So this builds a small program over the crate layout_file in a folder of its own, outside the
+repository, runs it on the layouts of layouts.py, and prints for each row the best of three times for n and 2n, their ratio, and the
+peak memory as a multiple of the file's size. Linear time has a ratio near 2.
+"""
+import os
+import shutil
+import subprocess
+import sys
+import tempfile
+
+import layouts
+
+HERE = os.path.dirname(os.path.abspath(__file__))
+CRATES = os.path.join(os.path.dirname(HERE), 'crates')
+BELOW = ['rv_io', 'readers', 'snapshot_file', 'type_names', 'rust_value', 'layout_model', 'layout_file']
+
+DRIVER = '''//! Reads a layout file, and writes it back where it is asked to.
+#![tactic(auto)]
+
+use layout_file::{read, write};
+use rv_io::{Buf, Inputs, RealInputs};
+use std::env;
+use std::process::ExitCode;
+use std::rt::Env;
+
+/// What to do, and with which file.
+#[derive(Drop)]
+struct Task {
+    writes: bool,
+    file: String,
+}
+
+fn main(rt: HostRuntime) -> ExitCode {
+    let mut inputs = RealInputs::new(&rt);
+    let mut file = Buf::new(rt.alloc());
+    let Some(task) = task_of(&rt) else { return ExitCode::from(2) };
+    if inputs.fetch(task.file.as_str(), 20_000_000, &mut file).is_err() {
+        return ExitCode::from(3);
+    }
+    let Ok(set) = read(rt.alloc(), file.as_bytes()) else { return ExitCode::from(1) };
+    if !task.writes {
+        return ExitCode::from(0);
+    }
+    let mut out = Buf::new(rt.alloc());
+    if write(&set, &mut out).is_err() {
+        return ExitCode::from(5);
+    }
+    if out.as_bytes() == file.as_bytes() {
+        ExitCode::from(0)
+    } else {
+        ExitCode::from(4)
+    }
+}
+
+fn task_of<R: Env + AllocGlobal>(rt: &R) -> Option<Task> {
+    let mut args = env::args(rt).ok()?.skip(1);
+    let writes = args.next()?.as_str() == "write";
+    let file = args.next()?;
+    Some(Task { writes, file })
+}
+'''
+
+
+def build(folder):
+    """The program, built by rt over copies of this repository's crates and of what their checks kept."""
+    crates = os.path.join(folder, 'crates')
+    os.makedirs(os.path.join(crates, 'write_back', 'src'))
+    with open(os.path.join(os.path.dirname(HERE), 'crates.txt')) as lines:
+        listed = [line for line in lines if line.split(':')[0] in BELOW]
+    for crate in BELOW:
+        shutil.copytree(os.path.join(CRATES, crate), os.path.join(crates, crate))
+    with open(os.path.join(folder, 'crates.txt'), 'w') as out:
+        out.write(''.join(listed) + 'write_back: rv_io layout_file\n')
+    with open(os.path.join(crates, 'write_back', 'src', 'main.rt'), 'w') as out:
+        out.write(DRIVER)
+    file = os.path.join(folder, 'file')
+    with open(file, 'w') as out:
+        out.write('rdbg-layout 1\ntarget 8\n')
+    subprocess.run(['rt', 'run', '--', 'write', file], cwd=os.path.join(crates, 'write_back'), check=True, stdout=sys.stderr)
+    return os.path.join(crates, 'write_back', 'out', 'write_back')
+
+
+def main():
+    with tempfile.TemporaryDirectory(dir=sys.argv[1] if len(sys.argv) > 1 else None) as folder:
+        program = build(folder)
+        paths = [os.path.join(folder, name) for name in ('once', 'twice')]
+        layouts.write_layout(paths[0], 9500, 2, 9500, 160)
+        layouts.write_layout(paths[1], 19000, 2, 19000, 160)
+        size = os.path.getsize(paths[1])
+        print('%-6s %10s %9s %9s %6s %12s' % ('what', 'bytes', 'n', '2n', 'ratio', 'peak/size'))
+        for what in ('read', 'write'):
+            once, _ = layouts.best([program, what, paths[0]], b'')
+            twice, peak = layouts.best([program, what, paths[1]], b'')
+            print('%-6s %10d %8.3fs %8.3fs %6.2f %12.1f' % (what, size, once, twice, twice / once, peak / size))
+
+
+if __name__ == '__main__':
+    main()

@@ -1,0 +1,156 @@
+//! The forms of a command line's words.
+ghost use Rattle.std.specs.Prelude.{◌≡◌, ◌≤◌, Some, None, IfSome, if◌then◌else◌};
+ghost use Rattle.std.specs.Option.{option_map, option_copied};
+ghost use Rattle.std.specs.Str.{is_utf8};
+ghost use Rattle.dbg_command.specs.Forms.{form_of, check_form, text_form, long_form, number_from, layout_name, named, IsShallow};
+
+use readers::read_decimal;
+use rv_io::Text;
+
+/// How deep references and boxes are followed where no depth is asked for.
+const DEPTH: u32 = 2;
+
+/// How many elements of a sequence are shown where no width is asked for.
+const WIDTH: u32 = 32;
+
+/// What is asked for, with the names of the files.
+#[derive(Clone, Copy)]
+pub enum Form<'a> {
+    /// `check L`: whether the layout is lawful and honest.
+    Check(&'a str),
+    /// `text L S`: the statics of the layout over the snapshot.
+    Text {
+        layout: &'a str,
+        snapshot: &'a str,
+        /// How deep references and boxes are followed: 0 to 4.
+        depth: u32,
+        /// How many elements of each sequence are shown at most: 1 to 256.
+        width: u32,
+    },
+}
+
+/// The form of the words, if they have one.
+pub fn form_of(words: &[Text]) -> Option<Form<'_>>
+    ensures form { option_map (λ f. named f) result ≡ form_of words.now }
+    ensures shallow { IfSome result (λ f. IsShallow (named f)) }
+{
+    match words {
+        [command, layout] => check_form(command.as_bytes(), layout.as_bytes()),
+        [command, layout, snapshot] => text_form(
+            command.as_bytes(),
+            layout.as_bytes(),
+            snapshot.as_bytes(),
+            DEPTH,
+            WIDTH,
+        ),
+        [
+            command,
+            layout,
+            snapshot,
+            depth_word,
+            depth,
+            width_word,
+            width,
+        ] => long_form(
+            command.as_bytes(),
+            layout.as_bytes(),
+            snapshot.as_bytes(),
+            depth_word.as_bytes(),
+            depth.as_bytes(),
+            width_word.as_bytes(),
+            width.as_bytes(),
+        ),
+        _ => None,
+    }
+}
+
+/// `check L`.
+fn check_form<'a>(command: &[u8], layout: &'a [u8]) -> Option<Form<'a>>
+    ensures form { option_map (λ f. named f) result ≡ check_form command.now layout.now }
+    ensures shallow { IfSome result (λ f. IsShallow (named f)) }
+{
+    if command != b"check".as_slice() {
+        return None;
+    }
+    let layout = utf8(layout)?;
+    Some(Form::Check(layout))
+}
+
+/// `text L S`, at a depth and a width.
+fn text_form<'a>(
+    command: &[u8],
+    layout: &'a [u8],
+    snapshot: &'a [u8],
+    depth: u32,
+    width: u32,
+) -> Option<Form<'a>>
+    requires { depth ≤ 4 }
+    ensures form { option_map (λ f. named f) result ≡ text_form command.now layout.now snapshot.now depth width }
+    ensures shallow { IfSome result (λ f. IsShallow (named f)) }
+{
+    if command != b"text".as_slice() {
+        return None;
+    }
+    let layout = utf8(layout)?;
+    let snapshot = utf8(snapshot)?;
+    Some(Form::Text {
+        layout,
+        snapshot,
+        depth,
+        width,
+    })
+}
+
+/// `text L S --depth N --width N`.
+fn long_form<'a>(
+    command: &[u8],
+    layout: &'a [u8],
+    snapshot: &'a [u8],
+    depth_word: &[u8],
+    depth: &[u8],
+    width_word: &[u8],
+    width: &[u8],
+) -> Option<Form<'a>>
+    ensures form { option_map (λ f. named f) result ≡ long_form command.now layout.now snapshot.now depth_word.now depth.now width_word.now width.now }
+    ensures shallow { IfSome result (λ f. IsShallow (named f)) }
+{
+    if depth_word != b"--depth".as_slice() || width_word != b"--width".as_slice() {
+        return None;
+    }
+    let depth = number_from(depth, 0, 4)?;
+    let width = number_from(width, 1, 256)?;
+    text_form(command, layout, snapshot, depth, width)
+}
+
+/// The number between these bounds that the word spells, in decimal without leading zeros.
+fn number_from(word: &[u8], least: u32, most: u32) -> Option<u32>
+    ensures value { result ≡ number_from least most word.now }
+    ensures within { IfSome result (λ n. n ≤ most) }
+{
+    let n = read_decimal(word)?;
+    if u128::from(least) <= n && n <= u128::from(most) {
+        Some(n as u32)
+    } else {
+        None
+    }
+}
+
+/// The bytes as text, if they are UTF-8.
+fn utf8(bytes: &[u8]) -> Option<&str>
+    ensures { option_copied result ≡ (if is_utf8 bytes.now then Some bytes.now else None) }
+{
+    match str::from_utf8(bytes) {
+        Ok(text) => Some(text),
+        Err(_) => None,
+    }
+}
+
+/// The name of the first file.
+pub fn layout_name<'a>(form: Form<'a>) -> &'a str
+    ensures { result.now ≡ layout_name (named form.entry) }
+{
+    match form {
+        Form::Check(layout) => layout,
+        Form::Text { layout, .. } => layout,
+    }
+}

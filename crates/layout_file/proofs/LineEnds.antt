@@ -1,0 +1,163 @@
+-- No line has the end of a line in its text.
+use Rattle.std.proofs.Common.{ℕ, ◌<◌, ◌≤◌, ◌^◌, List, ◌∷◌, ◌++◌, Option, Some, None, codes, arith, lit≤, lit<, refl}
+use Rattle.std.specs.Fmt.{decimal}
+use Rattle.readers.specs.Lines.{Lacks}
+use Rattle.readers.proofs.HexWords.{hex_lacks_lf}
+use Rattle.layout_model.specs.declared.set.TypeRef.{TypeRef}
+use Rattle.layout_model.specs.declared.set.TypeRef.TheVariants.{Prim, User}
+use Rattle.layout_model.specs.declared.set.TypeDef.{TypeDef}
+use Rattle.layout_model.specs.declared.set.TypeDef.TheVariants.{Struct, Array, Thin, Slice, Str, Dyn, FnPtr, CLike, Enum, Bytes}
+use Rattle.layout_model.specs.declared.set.Selector.{Selector}
+use Rattle.layout_model.specs.declared.set.Selector.TheVariants.{Exact, Span, Only}
+use Rattle.layout_file.specs.declared.line.Line.{Line}
+use Rattle.layout_file.specs.declared.line.Line.TheVariants as lines
+use Rattle.layout_file.specs.Kinds.{line_kind_word, type_kind_word, selector_word, primitive_word}
+use Rattle.layout_file.specs.Spellings.{Spelling, number, address, address_text, IsAddress, reference, reference_text, IsReference, pointer, primitive, word, name}
+use Rattle.layout_file.specs.Forms.{Left, Form, behind, nothing, ◌·◌, rest}
+use Rattle.layout_file.specs.Lines.{param_form, field_form, case_form, tag_form, static_form, sized_form, array_form, thin_form, fat_form, dyn_form, clike_form, exact_form, span_form, kind_of_type, type_rest, kind_of_selector, selector_rest, line_rest, kind_of_line, line_text, IsTypeLine, IsSelector, IsLine}
+use Rattle.layout_file.proofs.Lacking.{lacks_nil, lacks_cons, lacks_append, free_lacks, decimal_lacks, word_lacks, no_end}
+use Rattle.layout_file.proofs.KindWords.{line_kind_found, type_kind_found, selector_kind_found, pointer_found, primitive_found}
+use Rattle.layout_file.proofs.NameEnds.{IsOpen, open_name}
+
+-- the texts of items, and what a form leaves, have no end of a line
+
+record OpenItem {A : Type 0} (S : Spelling A) : Type 0 where
+  is_open : (a : A) → S.Is a → IsOpen (S.text a)
+
+record OpenForm {A : Type 0} (F : Form A) : Type 0 where
+  is_open : (a : A) → F.Is a → IsOpen (behind (F.text a))
+
+number_item : (bits : ℕ) → bits ≤ 128 → OpenItem (number bits)
+number_item bits h = record { is_open = λ n l. decimal_lacks 10 bits n (lit≤ tt) h l }
+
+open_address : (a : Option ℕ) → IsAddress a → IsOpen (address_text a)
+open_address None h = free_lacks 10 (codes "none") refl
+open_address (Some a) h = hex_lacks_lf a h
+
+address_item : OpenItem address
+address_item = record { is_open = open_address }
+
+open_reference : (r : TypeRef) → IsReference r → IsOpen (reference_text r)
+open_reference (Prim p) h = free_lacks 10 (primitive_word p) (primitive_found p).1.1
+open_reference (User n) h = lacks_cons 10 35 (decimal n) (λ e. omega arith) (decimal_lacks 10 32 n (lit≤ tt) (lit≤ tt) h)
+
+reference_item : OpenItem reference
+reference_item = record { is_open = open_reference }
+
+pointer_item : OpenItem pointer
+pointer_item = record { is_open = λ k h. free_lacks 10 (pointer.text k) (pointer_found k).1.1 }
+
+primitive_item : OpenItem primitive
+primitive_item = record { is_open = λ k h. free_lacks 10 (primitive.text k) (primitive_found k).1.1 }
+
+word_item : OpenItem word
+word_item = record { is_open = λ w h. word_lacks 10 (lit< tt) no_end w h }
+
+name_item : OpenItem name
+name_item = record { is_open = open_name }
+
+behind_space : (line : List ℕ) → IsOpen line → IsOpen (32 ∷ line)
+behind_space line h = lacks_cons 10 32 line (λ e. omega arith) h
+
+open_nothing : OpenForm nothing
+open_nothing = record { is_open = λ a h. lacks_nil 10 }
+
+open_then : {A B : Type 0} (S : Spelling A) (F : Form B) → OpenItem S → OpenForm F → OpenForm (S · F)
+open_then S F item more = record { is_open = λ p h. behind_space (S.text p.0 ++ behind (F.text p.1)) (lacks_append 10 (S.text p.0) (behind (F.text p.1)) (item.is_open p.0 h.0) (more.is_open p.1 h.1)) }
+
+open_rest : {A : Type 0} (S : Spelling A) → OpenItem S → OpenForm (rest S)
+open_rest S item = record { is_open = λ a h. behind_space (S.text a) (item.is_open a h) }
+
+number_then : {B : Type 0} (bits : ℕ) (F : Form B) → bits ≤ 128 → OpenForm F → OpenForm (number bits · F)
+number_then bits F h more = open_then (number bits) F (number_item bits h) more
+
+reference_then : {B : Type 0} (F : Form B) → OpenForm F → OpenForm (reference · F)
+reference_then F more = open_then reference F reference_item more
+
+pointer_then : {B : Type 0} (F : Form B) → OpenForm F → OpenForm (pointer · F)
+pointer_then F more = open_then pointer F pointer_item more
+
+word_then : {B : Type 0} (F : Form B) → OpenForm F → OpenForm (word · F)
+word_then F more = open_then word F word_item more
+
+one_name : OpenForm (rest name)
+one_name = open_rest name name_item
+
+one_reference : OpenForm (reference · nothing)
+one_reference = reference_then nothing open_nothing
+
+open_param : OpenForm param_form
+open_param = word_then _ one_reference
+
+open_field : OpenForm field_form
+open_field = word_then _ (number_then 32 _ (lit≤ tt) one_reference)
+
+open_case : OpenForm case_form
+open_case = word_then _ (number_then 64 _ (lit≤ tt) open_nothing)
+
+open_tag : OpenForm tag_form
+open_tag = number_then 32 _ (lit≤ tt) (open_then primitive nothing primitive_item open_nothing)
+
+open_static : OpenForm static_form
+open_static = open_then address _ address_item (reference_then _ one_name)
+
+open_sized : OpenForm sized_form
+open_sized = number_then 32 _ (lit≤ tt) (number_then 32 _ (lit≤ tt) one_name)
+
+open_array : OpenForm array_form
+open_array = number_then 64 _ (lit≤ tt) one_reference
+
+open_thin : OpenForm thin_form
+open_thin = pointer_then _ one_reference
+
+open_fat : OpenForm fat_form
+open_fat = pointer_then _ (reference_then _ one_name)
+
+open_dyn : OpenForm dyn_form
+open_dyn = pointer_then _ (reference_then _ (reference_then _ one_name))
+
+open_clike : OpenForm clike_form
+open_clike = open_then primitive _ primitive_item one_name
+
+open_exact : OpenForm exact_form
+open_exact = number_then 128 _ (lit≤ tt) open_nothing
+
+open_span : OpenForm span_form
+open_span = number_then 128 _ (lit≤ tt) (number_then 128 _ (lit≤ tt) open_nothing)
+
+open_type : (def : TypeDef) → IsTypeLine def → IsOpen (behind (type_rest def))
+open_type (Struct name size align params fields) h = open_sized.is_open (size, (align, name)) h.0
+open_type (Array elem count) h = open_array.is_open (count, (elem, tt)) h
+open_type (Thin kind to) h = open_thin.is_open (kind, (to, tt)) h
+open_type (Slice name kind ptr) h = open_fat.is_open (kind, (ptr, name)) h
+open_type (Str name kind ptr) h = open_fat.is_open (kind, (ptr, name)) h
+open_type (Dyn name kind ptr vtable) h = open_dyn.is_open (kind, (ptr, (vtable, name))) h
+open_type FnPtr h = lacks_nil 10
+open_type (CLike name tag cases) h = open_clike.is_open (tag, name) h.0
+open_type (Enum name size align params tag variants) h = open_sized.is_open (size, (align, name)) h.0
+open_type (Bytes name size align) h = open_sized.is_open (size, (align, name)) h
+
+open_selector : (sel : Selector) → IsSelector sel → IsOpen (behind (selector_rest sel))
+open_selector (Exact n) h = open_exact.is_open (n, tt) h
+open_selector (Span lo hi) h = open_span.is_open (lo, (hi, tt)) h
+open_selector Only h = lacks_nil 10
+
+-- an item, the word of a kind, and what follows it
+kinded : (item kind : List ℕ) (left : Left) → IsOpen item → IsOpen kind → IsOpen (behind left) → IsOpen (behind (Some (item ++ behind (Some (kind ++ behind left)))))
+kinded item kind left h k l =
+    behind_space (item ++ behind (Some (kind ++ behind left))) (lacks_append 10 item (behind (Some (kind ++ behind left))) h (behind_space (kind ++ behind left) (lacks_append 10 kind (behind left) k l)))
+
+open_line : (next : ℕ) (l : Line) → next < 2 ^ 32 → IsLine l → IsOpen (behind (line_rest next l))
+open_line next (lines.Type def) small h =
+    kinded (decimal next) (type_kind_word (kind_of_type def)) (type_rest def) (decimal_lacks 10 32 next (lit≤ tt) (lit≤ tt) small) (free_lacks 10 (type_kind_word (kind_of_type def)) (type_kind_found (kind_of_type def)).1.1) (open_type def h)
+open_line next (lines.Param p) small h = open_param.is_open (p.name, (p.ty, tt)) h
+open_line next (lines.Field f) small h = open_field.is_open (f.name, (f.off, (f.ty, tt))) h
+open_line next (lines.Case c) small h = open_case.is_open (c.name, (c.number, tt)) h
+open_line next (lines.Tag t) small h = open_tag.is_open (t.off, (t.prim, tt)) h
+open_line next (lines.Variant w sel) small h =
+    kinded w (selector_word (kind_of_selector sel)) (selector_rest sel) (word_lacks 10 (lit< tt) no_end w h.0) (free_lacks 10 (selector_word (kind_of_selector sel)) (selector_kind_found (kind_of_selector sel)).1.1) (open_selector sel h.1)
+open_line next (lines.Static s) small h = open_static.is_open (s.addr, (s.ty, s.name)) h
+
+pub text_has_no_end : (next : ℕ) (l : Line) → next < 2 ^ 32 → IsLine l → Lacks 10 (line_text next l)
+text_has_no_end next l small h =
+    lacks_append 10 (line_kind_word (kind_of_line l)) (behind (line_rest next l)) (free_lacks 10 (line_kind_word (kind_of_line l)) (line_kind_found (kind_of_line l)).1.1) (open_line next l small h)

@@ -1,0 +1,332 @@
+-- A line that spells nothing which may stand there breaks a rule.
+use Rattle.std.proofs.Common.{◌≡◌, ◌∙◌, sym, ap, subst, refl, ℕ, ◌<◌, ◌≤◌, Bool, true, false, cond, ◌==◌, List, [], ◌∷◌, length, length-drop, drop, min, Option, Some, None, Ok, arith, lit≤}
+use Rattle.std.specs.Option.{option_map}
+use Rattle.std.specs.Str.{is_utf8}
+use Rattle.layout_model.specs.declared.set.Set.{Set}
+use Rattle.layout_model.specs.declared.set.TypeRef.TheVariants.{Prim, User}
+use Rattle.layout_file.specs.declared.line.Line.TheVariants as lines
+use Rattle.layout_file.specs.declared.kinds.TypeKind.{TypeKind}
+use Rattle.layout_file.specs.declared.kinds.TypeKind.TheVariants as kinds
+use Rattle.layout_file.specs.declared.kinds.SelectorKind.{SelectorKind}
+use Rattle.layout_file.specs.declared.kinds.SelectorKind.TheVariants as selectors
+use Rattle.layout_file.specs.declared.kinds.LineKind.{LineKind}
+use Rattle.layout_file.specs.declared.kinds.LineKind.TheVariants as firsts
+use Rattle.layout_file.specs.declared.slot.Slot.{Slot}
+use Rattle.layout_file.specs.declared.slot.Slot.TheVariants as slots
+use Rattle.layout_file.specs.Kinds.{line_kind_of, primitive_of, pointer_of}
+use Rattle.layout_file.specs.Spellings.{Spelling, ◌>>=◌, number, number_of, the_next, next_of, address, address_of, reference, begins_with, pointer, primitive, type_kind, selector_kind, word, word_of, name, name_of}
+use Rattle.layout_file.specs.Forms.{Left, Form, cut, take_word, nothing, nothing_of, ◌·◌, rest}
+use Rattle.layout_file.specs.Lines.{param_form, field_form, case_form, tag_form, static_form, sized_form, array_form, thin_form, fat_form, dyn_form, clike_form, exact_form, span_form}
+use Rattle.layout_file.specs.ReadLines.{type_of, selector_of, type_line_of, variant_of, rest_of, line_of}
+use Rattle.layout_file.specs.Faults.{Front, behind, may_stand, next_number, unless, not_next, broken, lower, lowest_broken, fits, type_slots, selector_slots, first_word, second_word, places_if, places_by, places_of, rule_of_words, rule_of_kind, rule_of}
+
+-- a rule is broken
+abbrev pub IsBroken : Option ℕ → Type 0
+IsBroken o = (rule : ℕ) × (o ≡ Some rule)
+
+pub lower_none : (o : Option ℕ) → lower o None ≡ o
+lower_none None = refl
+lower_none (Some a) = refl
+
+pub lowest_none : (next : ℕ) (places : List Slot) → lowest_broken next places None ≡ None
+lowest_none next [] = refl
+lowest_none next (slots.Version ∷ more) = refl
+lowest_none next (slots.Next ∷ more) = refl
+lowest_none next (slots.Number bits ∷ more) = refl
+lowest_none next (slots.Address ∷ more) = refl
+lowest_none next (slots.Reference ∷ more) = refl
+lowest_none next (slots.Pointer ∷ more) = refl
+lowest_none next (slots.Primitive ∷ more) = refl
+lowest_none next (slots.Kind ∷ more) = refl
+lowest_none next (slots.Word ∷ more) = refl
+lowest_none next (slots.Name ∷ more) = refl
+
+no_places : (places : List Slot) → 0 < length places → fits places None ≡ false
+no_places [] h = absurd (omega arith)
+no_places (slot ∷ more) h = refl
+
+-- where words are missing
+pub fits_short : (places : List Slot) (i : ℕ) → i < length places → fits (drop i places) None ≡ false
+fits_short places i h = no_places (drop i places) (grind (arith, length-drop))
+
+lower_left : (a b : Option ℕ) → IsBroken a → IsBroken (lower a b)
+lower_left None b h = absurd (cc)
+lower_left (Some x) None h = (x, refl)
+lower_left (Some x) (Some y) h = (min x y, refl)
+
+lower_right : (a b : Option ℕ) → IsBroken b → IsBroken (lower a b)
+lower_right None b h = h
+lower_right (Some x) None h = (x, refl)
+lower_right (Some x) (Some y) h = (min x y, refl)
+
+-- each kind of item
+
+-- a word that is no such item breaks a rule, and the place is one word
+pub record WordFault {A : Type 0} (next : ℕ) (S : Spelling A) : Type 0 where
+  pub broke : (text : List ℕ) → S.of text ≡ None → IsBroken (broken next S.slot text)
+  pub lowest : (more : List Slot) (line : List ℕ) → lowest_broken next (S.slot ∷ more) (Some line) ≡ lower (broken next S.slot (cut line).0) (lowest_broken next more (cut line).1)
+  pub fit : (more : List Slot) (line : List ℕ) → fits (S.slot ∷ more) (Some line) ≡ fits more (cut line).1
+
+unless_broken : {A : Type 0} (rule : ℕ) (o : Option A) → o ≡ None → IsBroken (unless rule o)
+unless_broken rule None e = (rule, refl)
+unless_broken rule (Some a) e = absurd (cc)
+
+map_none : {A B : Type 0} (f : A → B) (o : Option A) → option_map f o ≡ None → o ≡ None
+map_none f None e = refl
+map_none f (Some a) e = absurd (cc)
+
+pub number_fault : (next bits : ℕ) → bits ≤ 128 → WordFault next (number bits)
+number_fault next bits h = record {
+  broke = λ text e. let same : min bits 128 ≡ bits = omega arith in unless_broken 4 (number_of (min bits 128) text) (ap (λ b. number_of b text) same ∙ e);
+  lowest = λ more line. refl;
+  fit = λ more line. refl;
+}
+
+next_broken : (next : ℕ) (o : Option ℕ) → next_of next o ≡ None → IsBroken (not_next next o)
+next_broken next None e = (4, refl)
+next_broken next (Some n) e = by_test (n == next) e
+  where
+    by_test : (b : Bool) → ◌≡◌ {A = Option (Unit {0})} (cond b (Some tt) None) None → IsBroken (cond b None (Some 5))
+    by_test true q = absurd (cc)
+    by_test false q = (5, refl)
+
+next_fault : (next : ℕ) → WordFault next (the_next next)
+next_fault next = record { broke = λ text e. next_broken next (number_of 32 text) e; lowest = λ more line. refl; fit = λ more line. refl }
+
+address_fault : (next : ℕ) → WordFault next address
+address_fault next = record { broke = λ text e. unless_broken 4 (address_of text) e; lowest = λ more line. refl; fit = λ more line. refl }
+
+reference_broken : (text : List ℕ) (b : Bool) → cond b (option_map (λ n. User n) (number_of 32 (drop 1 text))) (option_map (λ p. Prim p) (primitive_of text)) ≡ None → IsBroken (cond b (unless 4 (number_of 32 (drop 1 text))) (unless 7 (primitive_of text)))
+reference_broken text true e = unless_broken 4 (number_of 32 (drop 1 text)) (map_none (λ n. User n) (number_of 32 (drop 1 text)) e)
+reference_broken text false e = unless_broken 7 (primitive_of text) (map_none (λ p. Prim p) (primitive_of text) e)
+
+reference_fault : (next : ℕ) → WordFault next reference
+reference_fault next = record { broke = λ text e. reference_broken text (begins_with 35 text) e; lowest = λ more line. refl; fit = λ more line. refl }
+
+pointer_fault : (next : ℕ) → WordFault next pointer
+pointer_fault next = record { broke = λ text e. unless_broken 7 (pointer_of text) e; lowest = λ more line. refl; fit = λ more line. refl }
+
+primitive_fault : (next : ℕ) → WordFault next primitive
+primitive_fault next = record { broke = λ text e. unless_broken 7 (primitive_of text) e; lowest = λ more line. refl; fit = λ more line. refl }
+
+word_fault : (next : ℕ) → WordFault next word
+word_fault next = record { broke = λ text e. unless_broken 6 (word_of text) e; lowest = λ more line. refl; fit = λ more line. refl }
+
+-- forms
+
+-- what is left and is no such value breaks a rule, if it has as many words as there are places
+pub record Faulty {A : Type 0} (next : ℕ) (F : Form A) : Type 0 where
+  pub broke : (left : Left) → F.of left ≡ None → fits F.slots left ≡ true → IsBroken (lowest_broken next F.slots left)
+
+nothing_broke : (next : ℕ) (left : Left) → nothing_of left ≡ None → fits [] left ≡ true → IsBroken (lowest_broken next [] left)
+nothing_broke next None e h = absurd (cc)
+nothing_broke next (Some line) e h = absurd (cc)
+
+pub nothing_fault : (next : ℕ) → Faulty next nothing
+nothing_fault next = record { broke = nothing_broke next }
+
+name_broke : (next : ℕ) (left : Left) → (rest name).of left ≡ None → fits (rest name).slots left ≡ true → IsBroken (lowest_broken next (rest name).slots left)
+name_broke next None e h = absurd (cc)
+name_broke next (Some line) e h = unless_broken 6 (name_of line) e
+
+name_fault : (next : ℕ) → Faulty next (rest name)
+name_fault next = record { broke = name_broke next }
+
+after_none : {A B : Type 0} (o : Option B) (f : B → A) → (o >>= λ b. Some (f b)) ≡ None → o ≡ None
+after_none None f e = refl
+after_none (Some b) f e = absurd (cc)
+
+-- the word is no such item, or what follows it is no such value
+either_fault : {A B P : Type 0} (o : Option A) (left : Left) (f : A × Left → Option B) → ((o >>= λ a. Some (a, left)) >>= f) ≡ None → (o ≡ None → P) → ((a : A) → o ≡ Some a → f (a, left) ≡ None → P) → P
+either_fault None left f e g h = g refl
+either_fault (Some a) left f e g h = h a refl e
+
+then_broke : {A B : Type 0} (next : ℕ) (S : Spelling A) (F : Form B) → WordFault next S → Faulty next F → (left : Left) → (S · F).of left ≡ None → fits (S.slot ∷ F.slots) left ≡ true → IsBroken (lowest_broken next (S.slot ∷ F.slots) left)
+then_broke next S F fault more None e h = absurd (cc)
+then_broke next S F fault more (Some line) e h =
+    subst IsBroken (sym (fault.lowest F.slots line))
+    (either_fault (S.of (cut line).0) (cut line).1 (λ p. F.of p.1 >>= λ b. Some (p.0, b)) e
+    (λ none. lower_left (broken next S.slot (cut line).0) (lowest_broken next F.slots (cut line).1) (fault.broke (cut line).0 none))
+    (λ a some none. lower_right (broken next S.slot (cut line).0) (lowest_broken next F.slots (cut line).1) (more.broke (cut line).1 (after_none (F.of (cut line).1) (λ b. (a, b)) none) (sym (fault.fit F.slots line) ∙ h))))
+
+pub then_fault : {A B : Type 0} (next : ℕ) (S : Spelling A) (F : Form B) → WordFault next S → Faulty next F → Faulty next (S · F)
+then_fault next S F fault more = record { broke = then_broke next S F fault more }
+
+module _ (next : ℕ) where
+  number_then : {B : Type 0} (bits : ℕ) (F : Form B) → bits ≤ 128 → Faulty next F → Faulty next (number bits · F)
+  number_then bits F h more = then_fault next (number bits) F (number_fault next bits h) more
+
+  reference_then : {B : Type 0} (F : Form B) → Faulty next F → Faulty next (reference · F)
+  reference_then F more = then_fault next reference F (reference_fault next) more
+
+  pointer_then : {B : Type 0} (F : Form B) → Faulty next F → Faulty next (pointer · F)
+  pointer_then F more = then_fault next pointer F (pointer_fault next) more
+
+  word_then : {B : Type 0} (F : Form B) → Faulty next F → Faulty next (word · F)
+  word_then F more = then_fault next word F (word_fault next) more
+
+  one_reference : Faulty next (reference · nothing)
+  one_reference = reference_then nothing (nothing_fault next)
+
+  one_name : Faulty next (rest name)
+  one_name = name_fault next
+
+  param_fault : Faulty next param_form
+  param_fault = word_then _ one_reference
+
+  field_fault : Faulty next field_form
+  field_fault = word_then _ (number_then 32 _ (lit≤ tt) one_reference)
+
+  case_fault : Faulty next case_form
+  case_fault = word_then _ (number_then 64 _ (lit≤ tt) (nothing_fault next))
+
+  tag_fault : Faulty next tag_form
+  tag_fault = number_then 32 _ (lit≤ tt) (then_fault next primitive nothing (primitive_fault next) (nothing_fault next))
+
+  static_fault : Faulty next static_form
+  static_fault = then_fault next address _ (address_fault next) (reference_then _ one_name)
+
+  sized_fault : Faulty next sized_form
+  sized_fault = number_then 32 _ (lit≤ tt) (number_then 32 _ (lit≤ tt) one_name)
+
+  array_fault : Faulty next array_form
+  array_fault = number_then 64 _ (lit≤ tt) one_reference
+
+  thin_fault : Faulty next thin_form
+  thin_fault = pointer_then _ one_reference
+
+  fat_fault : Faulty next fat_form
+  fat_fault = pointer_then _ (reference_then _ one_name)
+
+  dyn_fault : Faulty next dyn_form
+  dyn_fault = pointer_then _ (reference_then _ (reference_then _ one_name))
+
+  clike_fault : Faulty next clike_form
+  clike_fault = then_fault next primitive _ (primitive_fault next) one_name
+
+  exact_fault : Faulty next exact_form
+  exact_fault = number_then 128 _ (lit≤ tt) (nothing_fault next)
+
+  span_fault : Faulty next span_form
+  span_fault = number_then 128 _ (lit≤ tt) (number_then 128 _ (lit≤ tt) (nothing_fault next))
+
+  -- kinds of types and variants
+
+  of_form : {A B : Type 0} (F : Form A) (fault : Faulty next F) (f : A → B) (left : Left) → option_map f (F.of left) ≡ None → fits F.slots left ≡ true → IsBroken (lowest_broken next F.slots left)
+  of_form F fault f left e h = fault.broke left (map_none f (F.of left) e) h
+
+  type_fault : (kind : TypeKind) (left : Left) → type_of kind left ≡ None → fits (type_slots kind) left ≡ true → IsBroken (lowest_broken next (type_slots kind) left)
+  type_fault kinds.Struct left e h = of_form sized_form sized_fault _ left e h
+  type_fault kinds.Array left e h = of_form array_form array_fault _ left e h
+  type_fault kinds.Thin left e h = of_form thin_form thin_fault _ left e h
+  type_fault kinds.Slice left e h = of_form fat_form fat_fault _ left e h
+  type_fault kinds.Str left e h = of_form fat_form fat_fault _ left e h
+  type_fault kinds.Dyn left e h = of_form dyn_form dyn_fault _ left e h
+  type_fault kinds.Function left e h = of_form nothing (nothing_fault next) _ left e h
+  type_fault kinds.CLike left e h = of_form clike_form clike_fault _ left e h
+  type_fault kinds.Enum left e h = of_form sized_form sized_fault _ left e h
+  type_fault kinds.Bytes left e h = of_form sized_form sized_fault _ left e h
+
+  selector_fault : (kind : SelectorKind) (left : Left) → selector_of kind left ≡ None → fits (selector_slots kind) left ≡ true → IsBroken (lowest_broken next (selector_slots kind) left)
+  selector_fault selectors.Exact left e h = of_form exact_form exact_fault _ left e h
+  selector_fault selectors.Span left e h = of_form span_form span_fault _ left e h
+  selector_fault selectors.Only left e h = of_form nothing (nothing_fault next) _ left e h
+
+  -- the rule of words is some rule, where so much holds of what fits
+  by_fit : (left : Left) (places : List Slot) → (fits places left ≡ true → IsBroken (lowest_broken next places left)) → IsBroken (rule_of_words next left (Ok places))
+  by_fit left places h = by_test (fits places left) h
+    where
+      by_test : (b : Bool) → (b ≡ true → IsBroken (lowest_broken next places left)) → IsBroken (cond b (lowest_broken next places left) (Some 3))
+      by_test true g = g refl
+      by_test false g = (3, refl)
+
+  -- a line whose kind is its second word
+  module _ {A K B : Type 0} (S : Spelling A) (fault : WordFault next S) (T : Spelling K) (slots_of : K → List Slot) (value : A → K → Left → Option B)
+      (value_fault : (a : A) (k : K) (left : Left) → value a k left ≡ None → fits (slots_of k) left ≡ true → IsBroken (lowest_broken next (slots_of k) left)) where
+    abbrev Unread : Left → Type 0
+    Unread left = (take_word S left >>= λ p. take_word T p.1 >>= λ q. value p.0 q.0 q.1) ≡ None
+
+    kind_known : (line behind_first : List ℕ) → (cut line).1 ≡ Some behind_first → (k : K) → T.of (cut behind_first).0 ≡ Some k → Unread (Some line)
+        → fits (S.slot ∷ slots.Kind ∷ slots_of k) (Some line) ≡ true → IsBroken (lowest_broken next (S.slot ∷ slots.Kind ∷ slots_of k) (Some line))
+    kind_known line behind_first after k is e h =
+        let more = slots.Kind ∷ slots_of k in
+        let paired : Option K → Option (K × Left) = λ o. o >>= λ x. Some (x, (cut behind_first).1) in
+        let fit : fits (slots_of k) (cut behind_first).1 ≡ true = sym (fault.fit more line ∙ ap (fits more) after) ∙ h in
+        subst IsBroken (sym (fault.lowest more line))
+        (either_fault (S.of (cut line).0) (cut line).1 (λ p. take_word T p.1 >>= λ q. value p.0 q.0 q.1) e
+        (λ none. lower_left (broken next S.slot (cut line).0) (lowest_broken next more (cut line).1) (fault.broke (cut line).0 none))
+        (λ a some none.
+        let unread : value a k (cut behind_first).1 ≡ None =
+        sym (ap (λ l. take_word T l >>= λ q. value a q.0 q.1) after ∙ ap (λ o. paired o >>= λ q. value a q.0 q.1) is) ∙ none in
+        lower_right (broken next S.slot (cut line).0) (lowest_broken next more (cut line).1)
+        (subst (λ l. IsBroken (lowest_broken next more l)) (sym after) (value_fault a k (cut behind_first).1 unread fit))))
+
+    abbrev places : K → List Slot
+    places k = S.slot ∷ slots.Kind ∷ slots_of k
+
+    by_kind : (line behind_first : List ℕ) → (cut line).1 ≡ Some behind_first → Unread (Some line) → (o : Option K) → T.of (cut behind_first).0 ≡ o → IsBroken (rule_of_words next (Some line) (places_if places o))
+    by_kind line behind_first after e None is = (2, refl)
+    by_kind line behind_first after e (Some k) is = by_fit (Some line) (places k) (kind_known line behind_first after k is e)
+
+    by_second : (line : List ℕ) → Unread (Some line) → (l : Left) → (cut line).1 ≡ l → IsBroken (rule_of_words next (Some line) (places_by places T.of (first_word l)))
+    by_second line e None after = (3, refl)
+    by_second line e (Some behind_first) after = by_kind line behind_first after e (T.of (cut behind_first).0) refl
+
+    kinded : (left : Left) → Unread left → IsBroken (rule_of_words next left (places_by places T.of (second_word left)))
+    kinded None e = (3, refl)
+    kinded (Some line) e = by_second line e (cut line).1 refl
+
+  type_line_fault : (left : Left) → type_line_of next left ≡ None → IsBroken (rule_of_words next left (places_of firsts.Type left))
+  type_line_fault left e = kinded (the_next next) (next_fault next) type_kind type_slots (λ a k l. type_of k l) (λ a k l n h. type_fault k l n h) left e
+
+  variant_fault : (left : Left) → variant_of left ≡ None → IsBroken (rule_of_words next left (places_of firsts.Variant left))
+  variant_fault left e =
+      kinded word (word_fault next) selector_kind selector_slots (λ w k l. option_map (λ sel. lines.Variant w sel) (selector_of k l))
+      (λ w k l n h. selector_fault k l (map_none (λ sel. lines.Variant w sel) (selector_of k l) n) h) left e
+
+  of_line : {A B : Type 0} (F : Form A) (fault : Faulty next F) (f : A → B) (left : Left) → option_map f (F.of left) ≡ None → IsBroken (rule_of_words next left (Ok F.slots))
+  of_line F fault f left e = by_fit left F.slots (of_form F fault f left e)
+
+  -- what stands behind the first word
+  rest_fault : (set : Set) (kind : LineKind) (left : Left) → may_stand (behind set) kind ≡ true → rest_of next kind left ≡ None → IsBroken (rule_of_words next left (places_of kind left))
+  rest_fault set firsts.Version left may e = absurd (cc)
+  rest_fault set firsts.Target left may e = absurd (cc)
+  rest_fault set firsts.Type left may e = type_line_fault left (map_none (λ def. lines.Type def) (type_line_of next left) e)
+  rest_fault set firsts.Param left may e = of_line param_form param_fault _ left e
+  rest_fault set firsts.Field left may e = of_line field_form field_fault _ left e
+  rest_fault set firsts.Case left may e = of_line case_form case_fault _ left e
+  rest_fault set firsts.Tag left may e = of_line tag_form tag_fault _ left e
+  rest_fault set firsts.Variant left may e = variant_fault left e
+  rest_fault set firsts.Static left may e = of_line static_form static_fault _ left e
+
+-- whole lines
+
+in_text : (b : Bool) (o : Option ℕ) → IsBroken o → IsBroken (cond b o (Some 1))
+in_text true o h = h
+in_text false o h = (1, refl)
+
+in_place : (b : Bool) (o : Option ℕ) → (b ≡ true → IsBroken o) → IsBroken (cond b o (Some 2))
+in_place true o h = h refl
+in_place false o h = (2, refl)
+
+-- a line whose first word is that of no kind
+pub no_kind_breaks : (front : Front) (text : List ℕ) → line_kind_of (cut text).0 ≡ None → IsBroken (rule_of front text)
+unfolding rule_of
+no_kind_breaks front text e = in_text (is_utf8 text) (rule_of_kind front (cut text).1 (line_kind_of (cut text).0)) (subst (λ o. IsBroken (rule_of_kind front (cut text).1 o)) (sym e) (2, refl))
+
+-- a line of a kind that may not stand there
+pub misplaced_breaks : (front : Front) (text : List ℕ) (kind : LineKind) → line_kind_of (cut text).0 ≡ Some kind → may_stand front kind ≡ false → IsBroken (rule_of front text)
+unfolding rule_of
+misplaced_breaks front text kind e misplaced =
+    in_text (is_utf8 text) (rule_of_kind front (cut text).1 (line_kind_of (cut text).0))
+    (subst (λ o. IsBroken (rule_of_kind front (cut text).1 o)) (sym e)
+    (in_place (may_stand front kind) (rule_of_words (next_number front) (cut text).1 (places_of kind (cut text).1)) (λ yes. absurd (cc))))
+
+-- a line of a kind that may stand there, and that spells nothing
+pub unfit_breaks : (set : Set) (text : List ℕ) (kind : LineKind) → line_kind_of (cut text).0 ≡ Some kind → may_stand (behind set) kind ≡ true → line_of (length set.types) text ≡ None → IsBroken (rule_of (behind set) text)
+unfolding rule_of line_of
+unfit_breaks set text kind e may none =
+    let unread : rest_of (length set.types) kind (cut text).1 ≡ None = sym (ap (λ o. o >>= λ k. rest_of (length set.types) k (cut text).1) e) ∙ none in
+    in_text (is_utf8 text) (rule_of_kind (behind set) (cut text).1 (line_kind_of (cut text).0))
+    (subst (λ o. IsBroken (rule_of_kind (behind set) (cut text).1 o)) (sym e)
+    (in_place (may_stand (behind set) kind) (rule_of_words (length set.types) (cut text).1 (places_of kind (cut text).1)) (λ yes. rest_fault (length set.types) set kind (cut text).1 may unread)))

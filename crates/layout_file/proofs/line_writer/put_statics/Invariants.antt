@@ -1,0 +1,9 @@
+use Rattle.std.proofs.Common.{◌≡◌, ◌++◌, map, take}
+use Rattle.std.specs.List.{flat_map}
+use Rattle.layout_file.specs.declared.line.Line.TheVariants as lines
+use Rattle.layout_file.specs.Sets.{part_text}
+use Rattle.layout_file.proofs.line_writer.put_statics.Given as goal
+
+-- the lines so far are put
+abbrev pub invariant-loop-item : goal.invariant-loop-item
+invariant-loop-item l = l.out ≡ l.initial.out ++ flat_map part_text (map (λ s. lines.Static s) (take l.item-index l.statics))

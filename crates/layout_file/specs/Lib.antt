@@ -1,0 +1,12 @@
+pub mod Kinds
+pub mod Spellings
+pub mod Forms
+pub mod Lines
+pub mod ReadLines
+pub mod Steps
+pub mod Sets
+pub mod Faults
+pub mod Additions
+pub mod Claims
+pub mod Progress
+pub mod Heads

@@ -1,0 +1,205 @@
+//! The words of a line, taken one by one.
+ghost use Rattle.std.specs.Prelude.{◌≡◌, ◌<◌, ◌≤◌, ◌^◌, Some, None, Ok, Err, IfSome};
+ghost use Rattle.layout_file.specs.Kinds.{type_kind_of, selector_kind_of, pointer_of, primitive_of};
+ghost use Rattle.layout_file.specs.Spellings.{number_of, the_next, number, address, address_of, reference, reference_of, pointer, primitive, type_kind, selector_kind, word, word_of, name};
+ghost use Rattle.layout_file.specs.Forms.{cut, next_word, all_left, nothing_of, take_word, take_rest};
+ghost use Rattle.layout_file.specs.Steps.{Took, Read, seen};
+
+use crate::chars::name_of;
+use crate::kinds::{
+    SelectorKind, TypeKind, pointer_of, primitive_of, selector_kind_of, type_kind_of,
+};
+use crate::numbers::{address_of, number_of, reference_of, u8_of, u32_of, u64_of, word_of};
+use layout_model::{Primitive, TypeRef};
+use readers::cut_word;
+use rv_io::Memory;
+use std::alloc::Global;
+use std::marker::Model;
+use type_names::{Name, PtrKind, Word};
+
+/// Why a line was not read.
+#[derive(Clone, Copy, Debug, PartialEq, Eq)]
+pub(crate) enum Stop {
+    /// Some word is none of what must stand at its place, or is missing, or is one too many.
+    Unfit,
+    /// Memory has run out.
+    Memory,
+}
+
+impl From<Memory> for Stop {
+    ghost use Rattle.layout_file.specs.declared.cursor.Stop.{Stop};
+    ghost use Rattle.std.specs.Prelude.{◌≡◌};
+
+    ghost from_gives = { λ _ s. s ≡ Stop.Memory };
+
+    fn from(_e: Memory) -> Stop {
+        Stop::Memory
+    }
+}
+
+/// What is left of a line behind the words that were taken: nothing, or what follows the space.
+#[derive(Drop)]
+pub(crate) struct Words<'a> {
+    left: Option<&'a [u8]>,
+}
+
+impl<'a> Model for Words<'a> {
+    ghost use Rattle.std.specs.Option.{option_map};
+    ghost use Rattle.layout_file.specs.Forms.{Left};
+
+    ghost Value = { Left };
+
+    ghost view = { λ w. option_map (λ line. line.now) w.left };
+}
+
+impl<'a> Words<'a> {
+    /// The words of a line.
+    pub(crate) fn new(line: &'a [u8]) -> Words<'a>
+        ensures { result ≡ Some line.now }
+    {
+        Words { left: Some(line) }
+    }
+
+    /// The next word.
+    pub(crate) fn next_word(&mut self) -> Result<&'a [u8], Stop>
+        ensures { Took (next_word self.old) (seen result) self.new }
+    {
+        let Some(line) = self.left else {
+            return Err(Stop::Unfit);
+        };
+        let (word, left) = cut_word(line);
+        self.left = left;
+        Ok(word)
+    }
+
+    /// All that is left.
+    fn all_left(&mut self) -> Result<&'a [u8], Stop>
+        ensures { Took (all_left self.old) (seen result) self.new }
+    {
+        let Some(line) = self.left else {
+            return Err(Stop::Unfit);
+        };
+        self.left = None;
+        Ok(line)
+    }
+
+    /// The end of the line.
+    pub(crate) fn end(self) -> Result<(), Stop>
+        ensures { Read (nothing_of self.entry) result }
+    {
+        match self.left {
+            None => Ok(()),
+            Some(_) => Err(Stop::Unfit),
+        }
+    }
+
+    /// The number of a type that is the next one.
+    pub(crate) fn type_number(&mut self, next: u32) -> Result<(), Stop>
+        ensures { Took (take_word (the_next next) self.old) result self.new }
+    {
+        if self.number_u32()? == next {
+            Ok(())
+        } else {
+            Err(Stop::Unfit)
+        }
+    }
+
+    /// A number of 8 bits.
+    pub(crate) fn number_u8(&mut self) -> Result<u8, Stop>
+        ensures { Took (take_word (number 8) self.old) result self.new }
+    {
+        let word = self.next_word()?;
+        fitting(u8_of(word))
+    }
+
+    /// A number of 32 bits.
+    pub(crate) fn number_u32(&mut self) -> Result<u32, Stop>
+        ensures { Took (take_word (number 32) self.old) result self.new }
+    {
+        let word = self.next_word()?;
+        fitting(u32_of(word))
+    }
+
+    pub(crate) fn number_u64(&mut self) -> Result<u64, Stop>
+        ensures { Took (take_word (number 64) self.old) result self.new }
+    {
+        let word = self.next_word()?;
+        fitting(u64_of(word))
+    }
+
+    pub(crate) fn number_u128(&mut self) -> Result<u128, Stop>
+        ensures { Took (take_word (number 128) self.old) result self.new }
+    {
+        let word = self.next_word()?;
+        fitting(number_of(word, 128))
+    }
+
+    pub(crate) fn address(&mut self) -> Result<Option<u64>, Stop>
+        ensures { Took (take_word address self.old) result self.new }
+    {
+        let word = self.next_word()?;
+        fitting(address_of(word))
+    }
+
+    pub(crate) fn reference(&mut self) -> Result<TypeRef, Stop>
+        ensures { Took (take_word reference self.old) result self.new }
+    {
+        let word = self.next_word()?;
+        fitting(reference_of(word))
+    }
+
+    pub(crate) fn pointer(&mut self) -> Result<PtrKind, Stop>
+        ensures { Took (take_word pointer self.old) result self.new }
+    {
+        let word = self.next_word()?;
+        fitting(pointer_of(word))
+    }
+
+    pub(crate) fn primitive(&mut self) -> Result<Primitive, Stop>
+        ensures { Took (take_word primitive self.old) result self.new }
+    {
+        let word = self.next_word()?;
+        fitting(primitive_of(word))
+    }
+
+    pub(crate) fn type_kind(&mut self) -> Result<TypeKind, Stop>
+        ensures { Took (take_word type_kind self.old) result self.new }
+    {
+        let word = self.next_word()?;
+        fitting(type_kind_of(word))
+    }
+
+    pub(crate) fn selector_kind(&mut self) -> Result<SelectorKind, Stop>
+        ensures { Took (take_word selector_kind self.old) result self.new }
+    {
+        let word = self.next_word()?;
+        fitting(selector_kind_of(word))
+    }
+
+    pub(crate) fn word(&mut self, alloc: Global) -> Result<Word, Stop>
+        ensures { Took (take_word word self.old) result self.new }
+    {
+        let word = self.next_word()?;
+        word_of(alloc, word)
+    }
+
+    /// A name, which is all that is left.
+    pub(crate) fn name(self, alloc: Global) -> Result<Name, Stop>
+        ensures { Read (take_rest name self.entry) result }
+    {
+        let Some(line) = self.left else {
+            return Err(Stop::Unfit);
+        };
+        name_of(alloc, line)
+    }
+}
+
+/// The item, if there is one.
+fn fitting<T>(item: Option<T>) -> Result<T, Stop>
+    ensures { Read item result }
+{
+    match item {
+        Some(item) => Ok(item),
+        None => Err(Stop::Unfit),
+    }
+}

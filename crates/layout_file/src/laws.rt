@@ -1,0 +1,12 @@
+//! The laws of layout files.
+ghost use Rattle.layout_file.specs.Claims.{SpellOne, HaveNoFault};
+
+/// A file spells at most one set.
+pub fn a_file_spells_one_set()
+    ensures { SpellOne }
+{}
+
+/// A file that spells a set is refused only for want of memory.
+pub fn a_spelled_file_has_no_fault()
+    ensures { HaveNoFault }
+{}

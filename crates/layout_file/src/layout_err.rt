@@ -1,0 +1,42 @@
+//! Why a file is no layout file.
+use rv_io::Memory;
+use thiserror::Error;
+
+/// What a layout has a greatest number of.
+#[derive(Clone, Copy, Debug, PartialEq, Eq)]
+pub enum Count {
+    /// Types: 20,000.
+    Types,
+    /// Params, fields, cases and variants: 40,000 together.
+    Parts,
+    /// Statics: 20,000.
+    Variables,
+}
+
+/// Why a file is no layout file.
+#[derive(Clone, Copy, Debug, PartialEq, Eq, Error)]
+pub enum LayoutErr {
+    /// The first line that breaks a rule, from 1, and the lowest rule that it breaks.
+    #[error("line {line} breaks rule {rule}")]
+    BadLine { line: u32, rule: u8 },
+    /// The first line with which the layout has too many of these.
+    #[error("too many {which:?}")]
+    Limit { which: Count },
+    /// A line begins a function, and functions aren't read yet.
+    #[error("not yet")]
+    NotYet,
+    /// Memory has run out.
+    #[error("out of memory")]
+    Memory,
+}
+
+impl From<Memory> for LayoutErr {
+    ghost use Rattle.std.specs.Prelude.{◌≡◌};
+    ghost use Rattle.layout_file.specs.declared.layout_err.LayoutErr.{LayoutErr};
+
+    ghost from_gives = { λ _ e. e ≡ LayoutErr.Memory };
+
+    fn from(_e: Memory) -> LayoutErr {
+        LayoutErr::Memory
+    }
+}

@@ -1,0 +1,44 @@
+//! The text of a set.
+ghost use Rattle.std.specs.Prelude.{◌≡◌, ◌++◌, length, take, OnOk, OnErr};
+ghost use Rattle.layout_file.specs.Sets.{layout_text, head_text, version_text, target_text};
+ghost use Rattle.readers.specs.Lines.{with_end};
+
+use crate::line_writer::{put_decimal, put_end, put_statics, put_types};
+use layout_model::Set;
+use rv_io::{Buf, Memory};
+
+fn put_version(out: &mut Buf) -> Result<(), Memory>
+    ensures put { OnOk result (out.new ≡ out.old ++ with_end version_text) }
+    ensures front { OnErr result (take (length out.old) out.new ≡ out.old) }
+{
+    out.put(b"rdbg-layout 1\n")
+}
+
+fn put_target(ptr: u8, out: &mut Buf) -> Result<(), Memory>
+    ensures put { OnOk result (out.new ≡ out.old ++ with_end (target_text ptr)) }
+    ensures front { OnErr result (take (length out.old) out.new ≡ out.old) }
+{
+    out.put(b"target ")?;
+    put_decimal(u128::from(ptr), out)?;
+    put_end(out)
+}
+
+/// Puts the first two lines, for pointers of so many bytes.
+fn put_head(ptr: u8, out: &mut Buf) -> Result<(), Memory>
+    ensures put { OnOk result (out.new ≡ out.old ++ head_text ptr) }
+    ensures front { OnErr result (take (length out.old) out.new ≡ out.old) }
+{
+    put_version(out)?;
+    put_target(ptr, out)
+}
+
+/// Appends the layout file of the set. After want of memory `out` holds what it held before, and perhaps a front of the
+/// file.
+pub fn write(set: &Set, out: &mut Buf) -> Result<(), Memory>
+    ensures put { OnOk result (out.new ≡ out.old ++ layout_text set.now) }
+    ensures front { OnErr result (take (length out.old) out.new ≡ out.old) }
+{
+    put_head(set.target.ptr, out)?;
+    put_types(set.types.as_slice(), out)?;
+    put_statics(set.statics.as_slice(), out)
+}
