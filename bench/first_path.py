@@ -8,10 +8,9 @@ times, and the ratio of the second time to the first. Linear time has a ratio ne
 """
 import os
 import random
-import subprocess
-import sys
-import tempfile
 import time
+
+import measure
 
 PRIMS = ['u8', 'u16', 'u32', 'u64', 'u128', 'i8', 'i32', 'i64', 'i128', 'bool', 'char', 'f32', 'f64', '()']
 BASE = 0x10000
@@ -35,15 +34,6 @@ def snapshot(path, bytes_, a_line, gap):
             at += a_line + (gap if i % 8 == 7 else 0)
 
 
-def best(words, runs=3):
-    times = []
-    for _ in range(runs):
-        start = time.perf_counter()
-        subprocess.run(words, check=True, stdout=subprocess.DEVNULL)
-        times.append(time.perf_counter() - start)
-    return min(times)
-
-
 def one_pass(*paths):
     start = time.perf_counter()
     for path in paths:
@@ -57,15 +47,14 @@ def row(program, folder, name, statics, bytes_, a_line, gap):
     l, s = os.path.join(folder, 'l'), os.path.join(folder, 's')
     layout(l, statics, bytes_)
     snapshot(s, bytes_, a_line, gap)
-    time_ = best([program, 'text', l, s])
+    time_ = measure.best([program, 'text', l, s])[0]
     print('%-44s %9d statics %11d bytes of files  %7.3f s   cat %6.3f s   one pass %6.3f s' % (
-        name, statics, os.path.getsize(l) + os.path.getsize(s), time_, best(['cat', l, s]), one_pass(l, s)))
+        name, statics, os.path.getsize(l) + os.path.getsize(s), time_, measure.best(['cat', l, s])[0], one_pass(l, s)))
     return time_
 
 
 def main():
-    program = os.path.abspath(sys.argv[1])
-    with tempfile.TemporaryDirectory(dir=sys.argv[2] if len(sys.argv) > 2 else None) as folder:
+    with measure.program_and_folder(__doc__) as (program, folder):
         for name, first, second in [
             ('statics, over one small run', (10000, 1 << 16, 64, 0), (20000, 1 << 16, 64, 0)),
             ('memory in lines of 64 bytes, gaps', (100, 12 << 20, 64, 8), (100, 24 << 20, 64, 8)),

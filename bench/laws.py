@@ -3,15 +3,13 @@
 
     bench/laws.py PROGRAM [DIRECTORY]
 
-Makes lawful layout files up to the limits of a set (20,000 types, 40,000 parts, 20,000 statics), runs the program on them, and
+Makes lawful layout files up to the limits of a set (20,000 types, 40,000 parts, 20,000 variables), runs the program on them, and
 prints for each shape the best of three times for n and for 2n items, and the ratio of the second to the first. Linear time has a
 ratio near 2. Work that is the same for both, as the start of the program, makes it less.
 """
 import os
-import subprocess
-import sys
-import tempfile
-import time
+
+import measure
 
 
 def chained(count):
@@ -111,6 +109,38 @@ def options_of_cases(n):
         yield from option(i + 1, 4, 'u32', 0, '#0')
 
 
+def function(zone):
+    """A function whose body has this zone."""
+    yield 'fn none demo::f'
+    yield 'scope 0 0x%x..0x%x' % zone
+
+
+def scopes(n):
+    """A function of half as many scopes, each with a zone; they nest 200 deep, again and again."""
+    yield from function((0x1000, 0x2000))
+    for i in range(n // 2 - 1):
+        yield 'scope %d 0x1000..0x2000' % (i % 200 + 1)
+
+
+def entries(n):
+    """A variable of n - 2 entries, each for another byte of code."""
+    yield from function((0, 2 * n))
+    yield 'var x u64'
+    for i in range(n - 2):
+        yield 'at 0x%x 0x%x reg %s' % (2 * i, 2 * i + 1, ('rax', 'rbx')[i % 2])
+
+
+def pieces(n):
+    """A variable of n - 3 pieces, every other one of which is nowhere."""
+    count = n - 3
+    yield 'type 0 array %d u8' % count
+    yield from function((0, 1))
+    yield 'var x #0'
+    yield 'at 0x0 0x1 pieces %d' % count
+    for i in range(count):
+        yield 'piece 1 %s' % ('reg rax', 'none')[i % 2]
+
+
 SHAPES = [
     (wide_struct, 40000),
     (wide_c_like, 40000),
@@ -123,6 +153,9 @@ SHAPES = [
     (options_of_struct, 40000),
     (options_of_chains, 40000),
     (options_of_cases, 40000),
+    (scopes, 40000),
+    (entries, 40000),
+    (pieces, 40000),
 ]
 
 
@@ -133,26 +166,14 @@ def write(path, lines):
             out.write(line + '\n')
 
 
-def best(words, runs=3):
-    times = []
-    for _ in range(runs):
-        start = time.perf_counter()
-        told = subprocess.run(words, check=True, stdout=subprocess.PIPE).stdout
-        times.append(time.perf_counter() - start)
-        if not told.startswith(b'lawful\n'):
-            sys.exit('%s: %r' % (' '.join(words), told))
-    return min(times)
-
-
 def main():
-    program = os.path.abspath(sys.argv[1])
-    with tempfile.TemporaryDirectory(dir=sys.argv[2] if len(sys.argv) > 2 else None) as folder:
+    with measure.program_and_folder(__doc__) as (program, folder):
         path = os.path.join(folder, 'layout')
         for shape, most in SHAPES:
             times = []
             for n in (most // 2, most):
                 write(path, shape(n))
-                times.append(best([program, 'check', path]))
+                times.append(measure.best([program, 'check', path], b'lawful\n')[0])
             print('%-20s %6d %7.3f s   %6d %7.3f s   ratio %.2f' % (
                 shape.__name__, most // 2, times[0], most, times[1], times[1] / times[0]))
 

@@ -3,15 +3,15 @@
 
     bench/layouts.py PROGRAM [DIRECTORY]
 
-Makes lawful layouts whose names grow with the file, so that the largest has nearly the greatest size and nearly the greatest number of
-lines, runs the program on them, and prints for each the best of three times, the ratio of the second time to the first, and the peak
-memory as a multiple of the file's size. Linear time has a ratio near 2.
+Makes lawful layouts: of types and statics whose names grow with the file, so that the largest has nearly the greatest size and nearly the
+greatest number of lines; and of functions, up to 20,000 variables and nearly 40,000 parts: many variables, scopes beside one another and
+inside one another, many entries of one variable, many pieces of one entry, and many operations. Runs the program on them, and prints for
+each the best of three times, the ratio of the second time to the first, and the peak memory as a multiple of the file's size. Linear time
+has a ratio near 2.
 """
 import os
-import subprocess
-import sys
-import tempfile
-import time
+
+import measure
 
 
 def write_layout(path, types, fields, statics, letters):
@@ -27,46 +27,80 @@ def write_layout(path, types, fields, statics, letters):
             out.write('static 0x%x #%d demo::%s_%d\n' % (0x10000 + 8 * i, i % types, pad, i))
 
 
-def run(words, begin):
-    """The time of one run whose output begins so, and the most memory that it held, in bytes."""
-    start = time.perf_counter()
-    child = subprocess.Popen(words, stdout=subprocess.PIPE)
-    text = child.stdout.read()
-    _, status, usage = os.wait4(child.pid, 0)
-    took = time.perf_counter() - start
-    if status != 0 or not text.startswith(begin):
-        sys.exit('%s: status %d, %r' % (' '.join(words), status, text))
-    return took, usage.ru_maxrss * 1024
+def write_scope(out, depth, lo, hi, variables, entries, location):
+    """A scope with so many variables, each with so many entries, of which each is for one address."""
+    out.write('scope %d 0x%x..0x%x\n' % (depth, lo, hi))
+    for i in range(variables):
+        out.write('var v%d #0\n' % i)
+        for j in range(entries):
+            out.write('at 0x%x 0x%x %s\n' % (lo + j, lo + j + 1, location(j)))
 
 
-def best(words, begin):
-    runs = [run(words, begin) for _ in range(3)]
-    return min(took for took, _ in runs), max(peak for _, peak in runs)
+def write_function(out, number, towers, depth, variables, entries, location):
+    """A function whose body has so many scopes beside one another, in each of which others stand inside one another, so many deep."""
+    size = max(1, entries)
+    tower = depth * size
+    begin = 0x400000 + number * (towers * tower + size)
+    out.write('fn rbp demo::f%d\n' % number)
+    write_scope(out, 0, begin, begin + towers * tower + size, variables, entries, location)
+    for i in range(towers):
+        lo = begin + i * tower
+        for j in range(depth):
+            write_scope(out, j + 1, lo + j * size, lo + tower, variables, entries, location)
+
+
+def write_functions(path, functions, towers, depth, variables, entries, size, location):
+    """So many functions of one shape; the variables' type has so many bytes."""
+    with open(path, 'w') as out:
+        out.write('rdbg-layout 1\ntarget 8\ntype 0 array %d u8\n' % size)
+        for i in range(functions):
+            write_function(out, i, towers, depth, variables, entries, location)
+
+
+def in_memory(k):
+    """A place in memory, another for each entry."""
+    return 'mem rbp -%d' % (8 * k + 8)
+
+
+def in_pieces(count):
+    """So many pieces of one byte each, of which every second is nowhere."""
+    pieces = ''.join('\npiece 1 %s' % ['reg rax', 'none'][i % 2] for i in range(count))
+    return lambda k: 'pieces %d' % count + pieces
+
+
+def computed(k):
+    """64 operations, others for each entry."""
+    return 'expr const:%d' % k + ' cfa plus' * 31 + ' value'
+
+
+# The name, what writes it, and the shapes for n and 2n.
+ROWS = [
+    ('short names', write_layout, (2500, 2, 2500, 1), (5000, 2, 5000, 1)),
+    ('many lines', write_layout, (9500, 2, 9500, 20), (19000, 2, 19000, 20)),
+    ('long names', write_layout, (9500, 2, 9500, 90), (19000, 2, 19000, 90)),
+    ('greatest file', write_layout, (9500, 2, 9500, 160), (19000, 2, 19000, 160)),
+    ('functions', write_functions, (5000, 0, 0, 1, 1, 8, in_memory), (10000, 0, 0, 1, 1, 8, in_memory)),
+    ('variables', write_functions, (10, 0, 0, 1000, 1, 8, in_memory), (20, 0, 0, 1000, 1, 8, in_memory)),
+    ('one scope', write_functions, (1, 0, 0, 10000, 1, 8, in_memory), (1, 0, 0, 20000, 1, 8, in_memory)),
+    ('scopes', write_functions, (1, 9000, 1, 1, 0, 8, in_memory), (1, 18000, 1, 1, 0, 8, in_memory)),
+    ('nested scopes', write_functions, (1, 45, 200, 1, 0, 8, in_memory), (1, 90, 200, 1, 0, 8, in_memory)),
+    ('entries', write_functions, (1, 0, 0, 1, 19000, 8, in_memory), (1, 0, 0, 1, 38000, 8, in_memory)),
+    ('pieces', write_functions, (1, 0, 0, 1, 1, 19000, in_pieces(19000)), (1, 0, 0, 1, 1, 38000, in_pieces(38000))),
+    ('operations', write_functions, (1, 0, 0, 1, 300, 8, computed), (1, 0, 0, 1, 600, 8, computed)),
+]
 
 
 def main():
-    if len(sys.argv) < 2:
-        sys.exit(__doc__)
-    program = os.path.abspath(sys.argv[1])
-    with tempfile.TemporaryDirectory() as made:
-        directory = sys.argv[2] if len(sys.argv) > 2 else made
-        rows = [
-            ('short names', (2500, 2, 2500, 1), (5000, 2, 5000, 1)),
-            ('many lines', (9500, 2, 9500, 20), (19000, 2, 19000, 20)),
-            ('long names', (9500, 2, 9500, 90), (19000, 2, 19000, 90)),
-            ('greatest file', (9500, 2, 9500, 160), (19000, 2, 19000, 160)),
-        ]
-        print('%-14s %10s %9s %9s %6s %12s' % ('layout', 'bytes', 'n', '2n', 'ratio', 'peak/size'))
-        for name, first, second in rows:
+    with measure.program_and_folder(__doc__) as (program, folder):
+        measure.print_head('layout')
+        for name, write, first, second in ROWS:
             paths = []
             for i, shape in enumerate((first, second)):
-                path = os.path.join(directory, 'layout%d.txt' % i)
-                write_layout(path, *shape)
+                path = os.path.join(folder, 'layout%d.txt' % i)
+                write(path, *shape)
                 paths.append(path)
-            once, _ = best([program, 'check', paths[0]], b'lawful\n')
-            size = os.path.getsize(paths[1])
-            twice, peak = best([program, 'check', paths[1]], b'lawful\n')
-            print('%-14s %10d %8.3fs %8.3fs %6.2f %12.1f' % (name, size, once, twice, twice / once, peak / size))
+            once, twice = [measure.best([program, 'check', path], b'lawful\n') for path in paths]
+            measure.print_row(name, os.path.getsize(paths[1]), once, twice)
 
 
 if __name__ == '__main__':

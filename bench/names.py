@@ -12,7 +12,8 @@ import shutil
 import subprocess
 import sys
 import tempfile
-import time
+
+import measure
 
 HERE = os.path.dirname(os.path.abspath(__file__))
 CRATES = os.path.join(os.path.dirname(HERE), 'crates')
@@ -114,21 +115,13 @@ def path(n, is_cv):
     return '::'.join(['segment'] * max(1, n // 9))
 
 
-def best(program, words, runs=3):
-    times = []
-    for _ in range(runs):
-        start = time.perf_counter()
-        subprocess.run([program] + words, check=True, stdout=subprocess.DEVNULL)
-        times.append(time.perf_counter() - start)
-    return min(times)
-
-
 def seconds(program, folder, action, spelling, text, count):
     file = os.path.join(folder, 'text')
     with open(file, 'w') as out:
         out.write(text)
-    start = best(program, [action, spelling, '0', file])
-    return (best(program, [action, spelling, str(count), file]) - start) / count
+    start, _ = measure.best([program, action, spelling, '0', file])
+    took, _ = measure.best([program, action, spelling, str(count), file])
+    return (took - start) / count
 
 
 def main():

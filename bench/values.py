@@ -9,10 +9,8 @@ claims 2^62 elements, of which two are shown: its time doesn't depend on the len
 """
 import os
 import random
-import sys
-import tempfile
 
-import layouts
+import measure
 
 BASE = 0x10000
 TYPES = '''type 0 enum 1 1 core::option::Option<bool>
@@ -62,27 +60,21 @@ def write_snapshot(path, statics, size):
 
 
 def main():
-    if len(sys.argv) < 2:
-        sys.exit(__doc__)
-    program = os.path.abspath(sys.argv[1])
-    with tempfile.TemporaryDirectory() as made:
-        directory = sys.argv[2] if len(sys.argv) > 2 else made
-        print('%-22s %10s %9s %9s %6s %12s' % ('what', 'bytes', 'n', '2n', 'ratio', 'peak/size'))
-        for name, statics, size in [('few bytes', 10000, 1 << 20), ('many bytes', 100, 14 << 20), ('both', 10000, 14 << 20)]:
-            times = []
-            for times_n in (1, 2):
-                files = [os.path.join(directory, 'layout.txt'), os.path.join(directory, 'snapshot.txt')]
-                write_layout(files[0], statics * times_n)
-                write_snapshot(files[1], statics * times_n, size * times_n)
-                took, peak = layouts.best([program, 'text'] + files, b'pc 0x0\n')
-                times.append(took)
-                bytes_ = sum(os.path.getsize(file) for file in files)
-            print('%-22s %10d %8.3fs %8.3fs %6.2f %12.1f' % (name, bytes_, times[0], times[1], times[1] / times[0], peak / bytes_))
+    with measure.program_and_folder(__doc__) as (program, folder):
+        files = [os.path.join(folder, name) for name in ('layout.txt', 'snapshot.txt')]
+        measure.print_head('what')
+        for name, statics, size in [('few bytes', 10000, 1 << 20), ('many bytes', 100, 31 << 19), ('both', 10000, 31 << 19)]:
+            runs = []
+            for times in (1, 2):
+                write_layout(files[0], statics * times)
+                write_snapshot(files[1], statics * times, size * times)
+                runs.append(measure.best([program, 'text'] + files, b'pc 0x0\n'))
+            measure.print_row(name, sum(os.path.getsize(file) for file in files), *runs)
         with open(files[0], 'w') as out:
             out.write('rdbg-layout 1\ntarget 8\ntype 0 thin const ()\ntype 1 thin const u8\ntype 2 slice ref #1 &[u8]\nstatic 0x1000 #2 demo::S\n')
         with open(files[1], 'w') as out:
             out.write('rdbg-snapshot 1\npc 0x0\nmem 0x1000 00200000000000000000000000000040\nmem 0x2000 0102\n')
-        took, _ = layouts.best([program, 'text'] + files + ['--depth', '1', '--width', '2'], b'pc 0x0\nstatic demo::S = &[0x2000; 4611686018427387904]')
+        took, _ = measure.best([program, 'text'] + files + ['--depth', '1', '--width', '2'], b'pc 0x0\nstatic demo::S = &[0x2000; 4611686018427387904]')
         print('%-22s %31.3fs' % ('2^62 elements claimed', took))
 
 

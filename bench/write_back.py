@@ -14,10 +14,11 @@ import sys
 import tempfile
 
 import layouts
+import measure
 
 HERE = os.path.dirname(os.path.abspath(__file__))
 CRATES = os.path.join(os.path.dirname(HERE), 'crates')
-BELOW = ['rv_io', 'readers', 'snapshot_file', 'type_names', 'rust_value', 'layout_model', 'layout_file']
+BELOW = ['rv_io', 'readers', 'snapshot_file', 'expr_eval', 'type_names', 'rust_value', 'layout_model', 'layout_file']
 
 DRIVER = '''//! Reads a layout file, and writes it back where it is asked to.
 #![tactic(auto)]
@@ -91,12 +92,10 @@ def main():
         paths = [os.path.join(folder, name) for name in ('once', 'twice')]
         layouts.write_layout(paths[0], 9500, 2, 9500, 160)
         layouts.write_layout(paths[1], 19000, 2, 19000, 160)
-        size = os.path.getsize(paths[1])
-        print('%-6s %10s %9s %9s %6s %12s' % ('what', 'bytes', 'n', '2n', 'ratio', 'peak/size'))
+        measure.print_head('what')
         for what in ('read', 'write'):
-            once, _ = layouts.best([program, what, paths[0]], b'')
-            twice, peak = layouts.best([program, what, paths[1]], b'')
-            print('%-6s %10d %8.3fs %8.3fs %6.2f %12.1f' % (what, size, once, twice, twice / once, peak / size))
+            once, twice = [measure.best([program, what, path], b'') for path in paths]
+            measure.print_row(what, os.path.getsize(paths[1]), once, twice)
 
 
 if __name__ == '__main__':

@@ -1,5 +1,5 @@
 pub mod Bounded
 pub mod Text
-pub mod Printed
+pub mod InOrder
 pub mod Endings
 pub mod Puts

@@ -14,8 +14,7 @@ use Rattle.layout_file.specs.Claims.{IsReading}
 use Rattle.snapshot_file.specs.declared.snapshot.Snapshot.{Snapshot}
 use Rattle.snapshot_file.specs.declared.fault.SnapErr.{SnapErr}
 use Rattle.snapshot_file.specs.declared.fault.SnapErr.TheVariants as snaps
-use Rattle.snapshot_file.specs.Snapshots.{Spells}
-use Rattle.snapshot_file.specs.Reading.{snapshot_of}
+use Rattle.snapshot_file.specs.Claims as snapshots
 use Rattle.dbg_command.specs.Forms.{Form, check, text, form_of, layout_name}
 use Rattle.dbg_command.specs.Stops.{line, number_line, numbers_line, count_word, breach_line}
 use Rattle.dbg_command.specs.Lines.{Prints}
@@ -27,9 +26,6 @@ Ending = ℕ → List ℕ → List ℕ → Type 0
 -- a status without output, and its message
 abbrev pub Refuses : ℕ → List ℕ → Ending
 Refuses code said status output message = (status ≡ code) × (output ≡ []) × (message ≡ said)
-
-abbrev pub NotYet : Ending
-NotYet = Refuses 1 (line (codes "rdbg: not yet") [])
 
 -- status 0, and this output
 abbrev pub Puts : List ℕ → Ending
@@ -47,11 +43,9 @@ WithFile name limit Next (Some bytes) = WithinLimit name (nat_lt limit (length b
 
 -- what the bytes of a snapshot are: the one snapshot that they spell, or the first fault
 abbrev pub IsSnapshotRead : List ℕ → Result Snapshot SnapErr → Type 0
-IsSnapshotRead bytes (Ok snap) = Spells bytes snap
-IsSnapshotRead bytes (Err snaps.Memory) = ⊥
-IsSnapshotRead bytes (Err e) = snapshot_of bytes ≡ Err e
+IsSnapshotRead bytes result = snapshots.IsReading bytes result
 
--- the lines of the statics over the snapshot, or its first fault
+-- the printed lines over the snapshot, or its first fault
 abbrev pub OfSnapshot : Set → ℕ → ℕ → Result Snapshot SnapErr → Ending
 OfSnapshot set depth width (Ok snap) status output message = (status ≡ 0) × Prints set depth width snap output × (message ≡ [])
 OfSnapshot set depth width (Err (snaps.BadLine n rule)) status output message = Refuses 1 (numbers_line (codes "rdbg: snapshot line ") n (codes " rule ") rule) status output message
@@ -94,7 +88,6 @@ abbrev pub OfRead : Form → Files → Result Set LayoutErr → Ending
 OfRead form files (Ok set) status output message = OfSet form files set status output message
 OfRead form files (Err (layouts.BadLine n rule)) status output message = Refuses 1 (numbers_line (codes "rdbg: layout line ") n (codes " rule ") rule) status output message
 OfRead form files (Err (layouts.Limit which)) status output message = Refuses 1 (line (codes "rdbg: layout limit ") (count_word which)) status output message
-OfRead form files (Err layouts.NotYet) status output message = NotYet status output message
 OfRead form files (Err layouts.Memory) status output message = ⊥
 
 -- the bytes of the first file

@@ -30,9 +30,10 @@ abbrev pub Gives : Option Files → (Files → ℕ → List ℕ → List ℕ →
 Gives told Holds before now (Ok output) = IfSome told (λ files. Holds files 0 output [])
 Gives told Holds before now (Err stop) = Stops told Holds before now stop
 
-abbrev pub IsReadFault : Result (List ℕ) Stop → Type 0
-IsReadFault (Err stops.ReadFault) = ⊤
-IsReadFault _ = ⊥
+-- a run stops for its words exactly where they have no form
+abbrev pub Fits : Type 0 → Result (List ℕ) Stop → Type 0
+Fits named (Err stops.Usage) = ¬ named
+Fits named _ = named
 
 -- the told files have this file, with P of its bytes
 abbrev pub HasFile : Option Files → List ℕ → (List ℕ → Type 0) → Type 0
@@ -51,6 +52,11 @@ Fetched told name limit before now (Err _) = ⊥
 pub record Ends (named : Type 0) (told : Option Files) (Holds : Files → ℕ → List ℕ → List ℕ → Type 0) (reads_before reads_now writes_before writes_now : ℕ) (code : ℕ) (output text : List ℕ) : Type 0 where
   -- with 0, 1 and 2 the status, the output and the message are those that the files lead to
   pub answered : code < 3 → IfSome told (λ files. Holds files code output text)
+  -- with 1 and 2 nothing was put out
+  pub refused : 1 ≤ code → code ≤ 2 → output ≡ []
+  -- with 2, and only then, the words have no form
+  pub usage : code ≡ 2 → ¬ named × (text ≡ message stops.Usage)
+  pub nameless : ¬ named → code ≡ 2
   -- with 3 the words name a file, a read failed, and nothing was put out
   pub read : code ≡ 3 → named × Rose reads_before reads_now × (output ≡ []) × (text ≡ message stops.ReadFault)
   -- with 4 a write failed, and a front of the answer was put out

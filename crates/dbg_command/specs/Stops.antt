@@ -1,7 +1,7 @@
 -- The statuses and the messages of runs that end without an answer.
 use Rattle.std.specs.Prelude.{ℕ, List, [], ◌∷◌, ◌++◌, codes, decimal}
 use Rattle.layout_model.specs.declared.breach.Item.{Item}
-use Rattle.layout_model.specs.declared.breach.Item.TheVariants.{Whole, Def, Static}
+use Rattle.layout_model.specs.declared.breach.Item.TheVariants.{Whole, Def, Static, Func}
 use Rattle.layout_file.specs.declared.layout_err.Count.{Count}
 use Rattle.layout_file.specs.declared.layout_err.Count.TheVariants.{Types, Parts, Variables}
 use Rattle.dbg_command.specs.declared.stop.Stop.{Stop}
@@ -37,10 +37,10 @@ abbrev pub breach_line : ℕ → Item → List ℕ
 breach_line law Whole = number_line (codes "rdbg: breach law ") law (codes " at set")
 breach_line law (Def i) = numbers_line (codes "rdbg: breach law ") law (codes " at type ") i
 breach_line law (Static i) = numbers_line (codes "rdbg: breach law ") law (codes " at static ") i
+breach_line law (Func i) = numbers_line (codes "rdbg: breach law ") law (codes " at fn ") i
 
 abbrev pub message : Stop → List ℕ
 message stops.Usage = line (codes "rdbg: usage") []
-message stops.NotYet = line (codes "rdbg: not yet") []
 message (stops.LayoutLine n rule) = numbers_line (codes "rdbg: layout line ") n (codes " rule ") rule
 message (stops.LayoutLimit which) = line (codes "rdbg: layout limit ") (count_word which)
 message (stops.Breach law at) = breach_line law at

@@ -1,13 +1,13 @@
 //! The answer to the words of a command line.
-ghost use Rattle.std.specs.Prelude.{◌≡◌, ◌≤◌, ◌<◌, [], Some, IsSome, IfOk};
+ghost use Rattle.std.specs.Prelude.{◌≡◌, ◌≤◌, ◌<◌, [], Some, IsSome, IfOk, ⊤};
 ghost use Rattle.layout_model.specs.Laws.{IsLawful};
 ghost use Rattle.layout_model.specs.Law10.{IsSet};
 ghost use Rattle.dbg_command.specs.Forms.{form_of, named, IsShallow};
 ghost use Rattle.dbg_command.specs.Answers.{Answers, OfForm, OfSet, OfLawful, OfCheck, OfText, honesty_text};
-ghost use Rattle.dbg_command.specs.Runs.{Gives, Fetched, IsReadFault};
+ghost use Rattle.dbg_command.specs.Runs.{Gives, Fetched, Fits};
 
 use crate::form::{Form, form_of, layout_name};
-use crate::lines::put_lines;
+use crate::printed::lines;
 use crate::stop::Stop;
 use layout_file::LayoutErr;
 use layout_model::{CheckErr, Set, is_honest};
@@ -28,7 +28,7 @@ pub fn answer<'a, I: Inputs>(
     inputs: &mut I,
 ) -> Result<Buf, Stop<'a>>
     ensures result { Gives (I.files inputs.old) (Answers words.entry.now) (I.faults inputs.old) (I.faults inputs.new) result }
-    ensures named { IsReadFault result → IsSome (form_of words.entry.now) }
+    ensures form { Fits (IsSome (form_of words.entry.now)) result }
     ensures later { I.faults inputs.old ≤ I.faults inputs.new }
 {
     match form_of(words) {
@@ -41,6 +41,7 @@ pub fn answer<'a, I: Inputs>(
 fn of_form<'a, I: Inputs>(alloc: Global, form: Form<'a>, inputs: &mut I) -> Result<Buf, Stop<'a>>
     requires { IsShallow (named form) }
     ensures result { Gives (I.files inputs.old) (OfForm (Some (named form.entry))) (I.faults inputs.old) (I.faults inputs.new) result }
+    ensures form { Fits ⊤ result }
     ensures later { I.faults inputs.old ≤ I.faults inputs.new }
 {
     let bytes = fetch_file(alloc, inputs, layout_name(form), LAYOUT_LIMIT)?;
@@ -48,7 +49,6 @@ fn of_form<'a, I: Inputs>(alloc: Global, form: Form<'a>, inputs: &mut I) -> Resu
         Ok(set) => of_set(alloc, form, &set, inputs),
         Err(LayoutErr::BadLine { line, rule }) => Err(Stop::LayoutLine { line, rule }),
         Err(LayoutErr::Limit { which }) => Err(Stop::LayoutLimit(which)),
-        Err(LayoutErr::NotYet) => Err(Stop::NotYet),
         Err(LayoutErr::Memory) => Err(Stop::Memory),
     }
 }
@@ -63,6 +63,7 @@ fn of_set<'a, I: Inputs>(
     requires set { IsSet set.now }
     requires shallow { IsShallow (named form) }
     ensures result { Gives (I.files inputs.old) (λ files. OfSet (named form.entry) files set.now) (I.faults inputs.old) (I.faults inputs.new) result }
+    ensures form { Fits ⊤ result }
     ensures later { I.faults inputs.old ≤ I.faults inputs.new }
 {
     match layout_model::check(alloc, set) {
@@ -82,6 +83,7 @@ fn of_lawful<'a, I: Inputs>(
     requires lawful { IsLawful set.now }
     requires shallow { IsShallow (named form) }
     ensures result { Gives (I.files inputs.old) (λ files. OfLawful (named form.entry) files set.now) (I.faults inputs.old) (I.faults inputs.new) result }
+    ensures form { Fits ⊤ result }
     ensures later { I.faults inputs.old ≤ I.faults inputs.new }
 {
     match form {
@@ -127,6 +129,7 @@ fn of_text<'a, I: Inputs>(
     requires lawful { IsLawful set.now }
     requires shallow { depth ≤ 4 }
     ensures result { Gives (I.files inputs.old) (OfText set.now depth width snapshot.entry.now) (I.faults inputs.old) (I.faults inputs.new) result }
+    ensures form { Fits ⊤ result }
     ensures later { I.faults inputs.old ≤ I.faults inputs.new }
 {
     let bytes = fetch_file(alloc, inputs, snapshot, SNAPSHOT_LIMIT)?;
@@ -137,7 +140,7 @@ fn of_text<'a, I: Inputs>(
         Err(SnapErr::Memory) => return Err(Stop::Memory),
     };
     let mut text = Buf::new(alloc);
-    put_lines(set, &snap, depth, width, &mut text)?;
+    lines(alloc, set, &snap, depth, width, &mut text)?;
     Ok(text)
 }
 
@@ -150,6 +153,7 @@ fn fetch_file<'a, I: Inputs>(
 ) -> Result<Buf, Stop<'a>>
     requires { limit < 100000000 }
     ensures result { Fetched (I.files inputs.old) name.entry limit (I.faults inputs.old) (I.faults inputs.new) result }
+    ensures form { Fits ⊤ result }
     ensures files { I.files inputs.new ≡ I.files inputs.old }
     ensures later { I.faults inputs.old ≤ I.faults inputs.new }
 {

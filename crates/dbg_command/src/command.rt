@@ -15,7 +15,7 @@ pub type Words = List<Text>;
 
 /// Does all that the program does, and gives its status: 0 with the answer on `out`; 1, 2, 3 and 5
 /// with nothing on `out`; 4 with a front of the answer on `out`. Where the status is not 0, a
-/// message goes to `err`, and no failure of `err` changes the status.
+/// message goes to `err`. That a failure of `err` changes no status is only tested.
 pub fn run<I: Inputs, O: Sink, E: Sink>(
     alloc: Global,
     words: &Words,

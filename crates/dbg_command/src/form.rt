@@ -18,7 +18,7 @@ const WIDTH: u32 = 32;
 pub enum Form<'a> {
     /// `check L`: whether the layout is lawful and honest.
     Check(&'a str),
-    /// `text L S`: the statics of the layout over the snapshot.
+    /// `text L S`: the statics of the layout and its running functions over the snapshot.
     Text {
         layout: &'a str,
         snapshot: &'a str,

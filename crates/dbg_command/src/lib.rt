@@ -4,10 +4,13 @@
 mod answer;
 mod command;
 mod form;
-mod lines;
+mod printed;
+mod printed_funcs;
+mod shown;
 mod stop;
 
 pub use command::{Words, run};
+pub use printed::lines;
 
 #[cfg(test)]
 mod tests;

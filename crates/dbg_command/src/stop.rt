@@ -13,8 +13,6 @@ use rv_io::{Memory, Sink};
 pub enum Stop<'a> {
     /// The words are none of the forms.
     Usage,
-    /// The layout has functions, or a static of a user's type, which aren't read yet.
-    NotYet,
     /// A line of the layout, counted from 1, breaks a rule.
     LayoutLine { line: u32, rule: u8 },
     /// The layout has too many of these.
@@ -53,8 +51,7 @@ pub fn status(stop: Stop<'_>) -> u8
 {
     match stop {
         Stop::Usage => 2,
-        Stop::NotYet
-        | Stop::LayoutLine { .. }
+        Stop::LayoutLine { .. }
         | Stop::LayoutLimit(_)
         | Stop::Breach { .. }
         | Stop::SnapshotLine { .. }
@@ -73,7 +70,6 @@ pub fn tell<E: Sink>(err: &mut E, stop: Stop<'_>)
 {
     match stop {
         Stop::Usage => tell_text(err, b"rdbg: usage", b""),
-        Stop::NotYet => tell_text(err, b"rdbg: not yet", b""),
         Stop::LayoutLine { line, rule } => tell_numbers(
             err,
             b"rdbg: layout line ",
@@ -119,6 +115,7 @@ fn tell_breach<E: Sink>(err: &mut E, law: u32, at: Item)
         Item::Whole => tell_number(err, front, law, b" at set"),
         Item::Def(place) => tell_numbers(err, front, law, b" at type ", place),
         Item::Static(place) => tell_numbers(err, front, law, b" at static ", place),
+        Item::Func(place) => tell_numbers(err, front, law, b" at fn ", place),
     }
 }
 

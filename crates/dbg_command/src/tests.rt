@@ -496,7 +496,10 @@ const FAULTY: [(&str, &str); 27] = [
         "rdbg-layout 1\ntarget 8\ntype 1 thin ref u8\n",
         "rdbg: layout line 3 rule 5\n",
     ),
-    ("rdbg-layout 1\ntarget 8\nfn none main\n", "rdbg: not yet\n"),
+    (
+        "rdbg-layout 1\ntarget 8\nfn none main\n",
+        "rdbg: breach law 12 at fn 0\n",
+    ),
     ("rdbg-layout 1\ntarget 4\n", "rdbg: breach law 3 at set\n"),
     (
         "rdbg-layout 1\ntarget 8\nstatic 0x1 u8 str\n",
@@ -656,11 +659,22 @@ fn a_failing_put_leaves_a_front_of_the_answer(rt: HostRuntime) -> Result<(), Fai
 
 #[test]
 fn a_failure_of_the_message_changes_no_status(rt: HostRuntime) -> Result<(), Fail> {
-    let words = words(rt.alloc(), &[b"text"])?;
-    let mut inputs = inputs(rt.alloc(), FIVE, FIVE_SNAPSHOT, &[])?;
-    let mut out = sink(rt.alloc(), None)?;
-    let mut err = sink(rt.alloc(), Some(4))?;
-    assert_eq!(rt; run(rt.alloc(), &words, &mut inputs, &mut out, &mut err), 2);
-    assert_eq!(rt; err.written(), b"rdbg".as_slice());
+    let cases: [(&[&[u8]], &[u32], u8); 4] = [
+        (&[b"check", b"x"], &[], 1),
+        (&[b"text"], &[], 2),
+        (&[b"check", b"l"], &[0], 3),
+        (&[b"text", b"l", b"s"], &[], 4),
+    ];
+    for (all, failing, status) in cases {
+        let words = words(rt.alloc(), all)?;
+        let mut inputs = inputs(rt.alloc(), FIVE, FIVE_SNAPSHOT, failing)?;
+        let mut out = sink(rt.alloc(), Some(10))?;
+        let mut err = sink(rt.alloc(), Some(4))?;
+        assert_eq!(rt;
+            run(rt.alloc(), &words, &mut inputs, &mut out, &mut err),
+            status
+        );
+        assert_eq!(rt; err.written(), b"rdbg".as_slice());
+    }
     Ok(())
 }

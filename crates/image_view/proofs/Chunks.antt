@@ -14,10 +14,10 @@ has c i h k =
     let q : nat_lt i (c.off + c.len) ≡ true = grind arith in
     rw (p, q) refl
 
-before : (c : Chunk) (i : ℕ) → i < c.off → covers c i ≡ false
+pub before : (c : Chunk) (i : ℕ) → i < c.off → covers c i ≡ false
 before c i h = let p : nat_le c.off i ≡ false = grind arith in rw p refl
 
-behind : (c : Chunk) (i : ℕ) → c.off + c.len ≤ i → covers c i ≡ false
+pub behind : (c : Chunk) (i : ℕ) → c.off + c.len ≤ i → covers c i ≡ false
 behind c i h =
     let p : nat_le c.off i ≡ true = grind arith in
     let q : nat_lt i (c.off + c.len) ≡ false = grind arith in

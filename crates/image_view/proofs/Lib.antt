@@ -2,3 +2,4 @@ pub mod Chunks
 pub mod Ranges
 pub mod PlaceNumbers
 pub mod OneChunk
+pub mod ByteNumbers

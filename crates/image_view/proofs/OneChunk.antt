@@ -161,7 +161,7 @@ pub all_memory : (mem : List Run) (at i n : ℕ) → AllIn 0 (places mem (source
 all_memory mem at i zero = tt
 all_memory mem at i (suc n) = (refl, all_memory mem at (i + 1) n)
 
-memory_part : (mem : List Run) (at i n : ℕ) → part_of (places mem (source.Memory at) i n) ≡ items_at mem (at + i) n
+pub memory_part : (mem : List Run) (at i n : ℕ) → part_of (places mem (source.Memory at) i n) ≡ items_at mem (at + i) n
 memory_part mem at i zero = refl
 memory_part mem at i (suc n) =
     let next : at + (i + 1) ≡ at + i + 1 = omega arith in

@@ -1,10 +1,10 @@
 //! Views.
 ghost use Rattle.std.specs.Prelude.{◌≡◌, ◌≤◌, ◌<◌, ◌+◌, ◌^◌, length, take, drop, IfSome, MatchOption, None, Some};
-ghost use Rattle.snapshot_file.specs.Memory.{number, bytes_of};
+ghost use Rattle.snapshot_file.specs.Memory.{number, bytes_of, items_at};
 ghost use Rattle.image_view.specs.Places.{Rise, Rises, places, part_of, InOneChunk};
 
 use crate::chunk::{Chunk, Source};
-use crate::covering::item;
+use crate::numbers::number_at;
 use crate::whole::whole_bytes;
 use rv_io::List;
 use snapshot_file::Mem;
@@ -35,7 +35,8 @@ impl<'a> Image<'a> {
 
     /// The bytes of memory from an address on; those past 2^64 - 1 are missing. Takes no memory.
     pub fn of_mem(mem: &'a Mem, at: u64, len: u32) -> Image<'a>
-        ensures { result ≡ places mem.now (OfMemory at) 0 len }
+        ensures places { result ≡ places mem.now (OfMemory at) 0 len }
+        ensures part { part_of result ≡ items_at mem.now at len }
     {
         Image {
             mem,
@@ -97,22 +98,4 @@ impl<'a> Image<'a> {
     {
         whole_bytes(self.mem, self.source, self.from, self.len)
     }
-}
-
-/// The little-endian number of so many places from one on.
-fn number_at(mem: &Mem, source: Source<'_>, from: u32, width: u32) -> Option<u128>
-    requires rises { Rises source }
-    requires narrow { width ≤ 16 }
-    requires within { from + width < 2 ^ 32 }
-    ensures number { result ≡ number (part_of (places mem.now source.entry from width)) }
-    ensures bound { IfSome result (λ n. n < 256 ^ width) }
-{
-    let mut n: u128 = 0;
-    for i in (0..width).rev() {
-        let Some(low) = item(mem, source, from + i) else {
-            return None;
-        };
-        n = n * 256 + u128::from(low);
-    }
-    Some(n)
 }

@@ -4,6 +4,7 @@
 mod chunk;
 mod covering;
 mod image;
+mod numbers;
 mod whole;
 
 pub use chunk::{Chunk, Src};

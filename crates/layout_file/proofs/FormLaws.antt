@@ -1,10 +1,11 @@
 -- What is left of a line is read by a form as the value that has it.
 use Rattle.std.proofs.Common.{◌≡◌, ◌∙◌, ap, subst, refl, ◌++◌, Option, Some, None}
 use Rattle.std.proofs.lemmas.Option.{same_Some}
+use Rattle.std.specs.Option.{option_map}
 use Rattle.layout_file.specs.Spellings.{Spelling, ◌>>=◌}
 use Rattle.layout_file.specs.Forms.{Left, Form, cut, take_word, take_rest, behind, nothing, nothing_of, ◌·◌, rest}
 use Rattle.layout_file.proofs.Cuts.{cut_joins, cut_behind}
-use Rattle.layout_file.proofs.ItemLaws.{Law, WordLaw}
+use Rattle.layout_file.proofs.ItemLaws.{Law, WordLaw, map_says}
 
 -- the value that is read is the one value that has the text
 pub record FormLaw {A : Type 0} (F : Form A) : Type 0 where
@@ -60,3 +61,14 @@ rest_says S law (Some line) a e = let known = law.says line a e in (ap Some know
 
 pub rest_law : {A : Type 0} (S : Spelling A) → Law S → FormLaw (rest S)
 rest_law S law = record { says = rest_says S law; some = law.some }
+
+-- a value that is made of what a form reads
+
+pub says_by : {A B : Type 0} (F : Form A) (law : FormLaw F) (f : A → B) (P : B → Type 0) (left : Left) (b : B) → option_map f (F.of left) ≡ Some b → ((a : A) → left ≡ F.text a → F.Is a → P (f a)) → P b
+says_by F law f P left b e h =
+    let found = map_says f (F.of left) b e in
+    let known = law.says left found.0 found.1 in
+    subst P found.2 (h found.0 known.0 known.1)
+
+pub some_by : {A B : Type 0} (F : Form A) (law : FormLaw F) (f : A → B) (a : A) → F.Is a → option_map f (F.of (F.text a)) ≡ Some (f a)
+some_by F law f a h = ap (option_map f) (law.some a h)

@@ -37,7 +37,7 @@ version_broken true e = absurd (cc)
 version_broken false e = (4, refl)
 
 version_fault : WordFault 0 version
-version_fault = record { broke = λ text e. version_broken (bytes_eq text (codes "1")) e; lowest = λ more line. refl; fit = λ more line. refl }
+version_fault = record { broke = λ text e. version_broken (bytes_eq text (codes "1")) e; lowest = λ more line. refl; fit = λ more line. refl; needed = refl }
 
 broken_words : {A : Type 0} (F : Form A) → Faulty 0 F → (left : Left) → F.of left ≡ None → (b : Bool) → fits F.slots left ≡ b → cond b (lowest_broken 0 F.slots left) (Some 3) ≢ None
 broken_words F fault left e true h n = let r = (fault.broke left e h).1 in cc
@@ -88,6 +88,12 @@ version_kind line (Some firsts.Case) k e n = cc
 version_kind line (Some firsts.Tag) k e n = cc
 version_kind line (Some firsts.Variant) k e n = cc
 version_kind line (Some firsts.Static) k e n = cc
+version_kind line (Some firsts.Func) k e n = cc
+version_kind line (Some firsts.Scope) k e n = cc
+version_kind line (Some firsts.Var) k e n = cc
+version_kind line (Some firsts.Arg) k e n = cc
+version_kind line (Some firsts.At) k e n = cc
+version_kind line (Some firsts.Piece) k e n = cc
 
 target_kind : (line : List ℕ) (o : Option LineKind) → line_kind_of (cut line).0 ≡ o → behind_word (codes "target") target_form line ≡ None → rule_of_kind second (cut line).1 o ≢ None
 target_kind line None k e n = cc
@@ -100,6 +106,12 @@ target_kind line (Some firsts.Case) k e n = cc
 target_kind line (Some firsts.Tag) k e n = cc
 target_kind line (Some firsts.Variant) k e n = cc
 target_kind line (Some firsts.Static) k e n = cc
+target_kind line (Some firsts.Func) k e n = cc
+target_kind line (Some firsts.Scope) k e n = cc
+target_kind line (Some firsts.Var) k e n = cc
+target_kind line (Some firsts.Arg) k e n = cc
+target_kind line (Some firsts.At) k e n = cc
+target_kind line (Some firsts.Piece) k e n = cc
 
 unless_utf8 : (b : Bool) (o : Option ℕ) → o ≢ None → cond b o (Some 1) ≢ None
 unless_utf8 true o h = h

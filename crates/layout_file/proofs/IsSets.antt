@@ -5,6 +5,7 @@ use Rattle.std.proofs.lemmas.List.Elements.{All-nil, All-cons, All-head, All-tai
 use Rattle.type_names.specs.declared.name.Name.{Name, out-Name}
 use Rattle.type_names.specs.declared.name.Name.TheOpen.{Name-F}
 use Rattle.type_names.specs.declared.name.Seg.{Seg}
+use Rattle.layout_model.specs.declared.func.Func.{Func}
 use Rattle.layout_model.specs.declared.set.Set.{Set}
 use Rattle.layout_model.specs.declared.set.Static.{Static}
 use Rattle.layout_model.specs.declared.set.TypeDef.{TypeDef}
@@ -15,7 +16,7 @@ use Rattle.layout_file.specs.declared.line.Line.{Line}
 use Rattle.layout_file.specs.declared.line.Line.TheVariants as lines
 use Rattle.layout_file.specs.Spellings.{IsName}
 use Rattle.layout_file.specs.Lines.{IsLine, IsTypeLine}
-use Rattle.layout_file.specs.Sets.{bare, part_lines, type_lines, Spells}
+use Rattle.layout_file.specs.Sets.{bare, part_lines, type_lines, scope_lines, func_lines, Spells}
 
 layer_named : (name : Name) (layer : Name-F Name Seg) → out-Name name ≡ layer → IsName name → IsNamed name
 layer_named name layer e (inl proper) = inl proper
@@ -49,11 +50,11 @@ type_named (Enum name size align params tag variants) h = is_named name h.0.1.1
 type_named (Bytes name size align) h = is_named name h.1.1
 
 -- the lines before, and the lines behind
-front : (xs ys : List Line) → All IsLine (xs ++ ys) → All IsLine xs
+pub front : (xs ys : List Line) → All IsLine (xs ++ ys) → All IsLine xs
 front [] ys h = All-nil IsLine
 front (x ∷ xs) ys h = All-cons IsLine x xs (All-head IsLine x (xs ++ ys) h) (front xs ys (All-tail IsLine x (xs ++ ys) h))
 
-back : (xs ys : List Line) → All IsLine (xs ++ ys) → All IsLine ys
+pub back : (xs ys : List Line) → All IsLine (xs ++ ys) → All IsLine ys
 back [] ys h = h
 back (x ∷ xs) ys h = back xs ys (All-tail IsLine x (xs ++ ys) h)
 
@@ -72,8 +73,23 @@ statics_named (s ∷ ss) h =
     let own : IsLine (lines.Static s) = All-head IsLine (lines.Static s) more h in
     All-cons (λ s. IsNamed s.name) s ss (is_named s.name own.1.1) (statics_named ss (All-tail IsLine (lines.Static s) more h))
 
+funcs_named : (fs : List Func) → All IsLine (flat_map func_lines fs) → All (λ f. IsNamed f.name) fs
+funcs_named [] h = All-nil (λ f. IsNamed f.name)
+funcs_named (f ∷ fs) h =
+    let own_line : Line = lines.Func (record f { scopes = [] }) in
+    let more = flat_map scope_lines f.scopes ++ flat_map func_lines fs in
+    let own : IsLine own_line = All-head IsLine own_line more h in
+    let others : All IsLine more = All-tail IsLine own_line more h in
+    All-cons (λ f. IsNamed f.name) f fs (is_named f.name own.0.1) (funcs_named fs (back (flat_map scope_lines f.scopes) (flat_map func_lines fs) others))
+
 pub spells_is_set : (set : Set) (bytes : List ℕ) → Spells set bytes → IsSet set
 spells_is_set set bytes spells =
     let types = flat_map type_lines set.types in
     let statics = map (λ s. lines.Static s) set.statics in
-    record { types = types_named set.types (front types statics spells.items.lines); statics = statics_named set.statics (back types statics spells.items.lines) }
+    let funcs = flat_map func_lines set.funcs in
+    let behind = back types (statics ++ funcs) spells.items.lines in
+    record {
+      types = types_named set.types (front types (statics ++ funcs) spells.items.lines);
+      statics = statics_named set.statics (front statics funcs behind);
+      funcs = funcs_named set.funcs (back statics funcs behind);
+    }

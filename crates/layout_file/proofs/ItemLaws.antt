@@ -41,15 +41,15 @@ pub map_says : {A B : Type 0} (f : A → B) (o : Option A) (b : B) → option_ma
 map_says f None b e = absurd (cc)
 map_says f (Some a) b e = (a, refl, same_Some (f a) b e)
 
-by_test : {P : Type 0} (t : Bool) → (t ≡ true → P) → (t ≡ false → P) → P
+pub by_test : {P : Type 0} (t : Bool) → (t ≡ true → P) → (t ≡ false → P) → P
 by_test true f g = f refl
 by_test false f g = g refl
 
-cond_true : {A : Type 0} (t : Bool) (x y : A) → t ≡ true → cond t x y ≡ x
+pub cond_true : {A : Type 0} (t : Bool) (x y : A) → t ≡ true → cond t x y ≡ x
 cond_true true x y e = refl
 cond_true false x y e = absurd (cc)
 
-cond_false : {A : Type 0} (t : Bool) (x y : A) → t ≡ false → cond t x y ≡ y
+pub cond_false : {A : Type 0} (t : Bool) (x y : A) → t ≡ false → cond t x y ≡ y
 cond_false true x y e = absurd (cc)
 cond_false false x y e = refl
 
@@ -68,7 +68,7 @@ next_by : (next : ℕ) (o : Option ℕ) (u : Unit {0}) → next_of next o ≡ So
 next_by next None u e = absurd (cc)
 next_by next (Some n) u e = ap Some (eqb-true n next (cond_some (n == next) tt u e).0)
 
-eqb_same : (n : ℕ) → (n == n) ≡ true
+pub eqb_same : (n : ℕ) → (n == n) ≡ true
 eqb_same n = grind arith
 
 pub next_law : (next : ℕ) → WordLaw (the_next next)
@@ -122,7 +122,7 @@ address_law = record { law = record { says = address_says; some = address_some }
 
 -- references
 
-begun : (b : ℕ) (text : List ℕ) → begins_with b text ≡ true → text ≡ b ∷ drop 1 text
+pub begun : (b : ℕ) (text : List ℕ) → begins_with b text ≡ true → text ≡ b ∷ drop 1 text
 begun b [] e = absurd (cc)
 begun b (c ∷ text) e = ap (λ x. x ∷ text) (eqb-true c b e)
 

@@ -41,6 +41,12 @@ line_kind_found firsts.Case = (refl, (refl, refl, refl))
 line_kind_found firsts.Tag = (refl, (refl, refl, refl))
 line_kind_found firsts.Variant = (refl, (refl, refl, refl))
 line_kind_found firsts.Static = (refl, (refl, refl, refl))
+line_kind_found firsts.Func = (refl, (refl, refl, refl))
+line_kind_found firsts.Scope = (refl, (refl, refl, refl))
+line_kind_found firsts.Var = (refl, (refl, refl, refl))
+line_kind_found firsts.Arg = (refl, (refl, refl, refl))
+line_kind_found firsts.At = (refl, (refl, refl, refl))
+line_kind_found firsts.Piece = (refl, (refl, refl, refl))
 
 pub line_kind_says : (word : List ℕ) (x : LineKind) → line_kind_of word ≡ Some x → word ≡ line_kind_word x
 line_kind_says word x e = named_says line_kind_word all_line_kinds word x e

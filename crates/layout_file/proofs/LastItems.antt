@@ -1,6 +1,10 @@
 -- The last item of a list.
-use Rattle.std.proofs.Common.{◌≡◌, ◌∙◌, sym, ap, refl, suc, ◌-◌, length, slice_get, arith, List, [], ◌∷◌, ◌++◌, Some}
-use Rattle.layout_file.specs.Sets.{last_of}
+use Rattle.std.proofs.Common.{◌≡◌, ◌∙◌, sym, ap, refl, ℕ, suc, ◌-◌, ◌+◌, length, slice_get, arith, List, [], ◌∷◌, ◌++◌, append_assoc, Some, false}
+use Rattle.std.proofs.lemmas.List.{append-nil}
+use Rattle.std.proofs.lemmas.Option.{same_Some}
+use Rattle.std.proofs.lemmas.List.Sums.{sum_by-cons}
+use Rattle.std.specs.List.{flat_map, sum_by}
+use Rattle.layout_file.specs.Sets.{last_of, is_empty}
 use Rattle.layout_file.specs.Additions.{with_last}
 
 pub with_last_end : {A : Type 0} (f : A → A) (xs : List A) (x : A) → with_last f (xs ++ x ∷ []) ≡ xs ++ f x ∷ []
@@ -23,3 +27,46 @@ last_of_get (x ∷ y ∷ xs) =
     let a : suc (length xs) - 1 ≡ length xs = omega arith in
     let b : suc (suc (length xs)) - 1 ≡ suc (length xs) = omega arith in
     last_of_get (y ∷ xs) ∙ ap (slice_get (y ∷ xs)) a ∙ ap (slice_get (x ∷ y ∷ xs)) (sym b)
+
+pub some_end : {A : Type 0} (xs : List A) (x : A) → is_empty (xs ++ x ∷ []) ≡ false
+some_end [] x = refl
+some_end (y ∷ xs) x = refl
+
+pub length_with_last : {A : Type 0} (f : A → A) (xs : List A) → length (with_last f xs) ≡ length xs
+length_with_last f [] = refl
+length_with_last f (x ∷ []) = refl
+length_with_last f (x ∷ y ∷ xs) = ap (λ n. suc n) (length_with_last f (y ∷ xs))
+
+-- the last item that there is, where there is one
+pub last_is : {A : Type 0} (xs : List A) → is_empty xs ≡ false → (x : A) × (last_of xs ≡ Some x)
+last_is [] h = absurd (cc)
+last_is (x ∷ []) h = (x, refl)
+last_is (x ∷ y ∷ xs) h = last_is (y ∷ xs) refl
+
+-- what the last item comes to with some lines more, the list comes to
+pub flat_map_last : {A B : Type 0} (L : A → List B) (f : A → A) (more : List B) (xs : List A) (x : A) → last_of xs ≡ Some x → L (f x) ≡ L x ++ more
+    → flat_map L (with_last f xs) ≡ flat_map L xs ++ more
+flat_map_last L f more [] x e h = absurd (cc)
+flat_map_last L f more (y ∷ []) x e h =
+    let same : y ≡ x = same_Some y x e in
+    append-nil (L (f y)) ∙ ap (λ a. L (f a)) same ∙ h ∙ ap (λ a. L a ++ more) (sym same) ∙ ap (λ ls. ls ++ more) (sym (append-nil (L y)))
+flat_map_last L f more (y ∷ z ∷ xs) x e h =
+    ap (λ ls. L y ++ ls) (flat_map_last L f more (z ∷ xs) x e h) ∙ sym (append_assoc (L y) (flat_map L (z ∷ xs)) more)
+
+pub regroup : (a b c : ℕ) → a + (b + c) ≡ (a + b) + c
+regroup a b c = omega arith
+
+pub sum_last : {A : Type 0} (n : A → ℕ) (f : A → A) (k : ℕ) (xs : List A) (x : A) → last_of xs ≡ Some x → n (f x) ≡ n x + k
+    → sum_by n (with_last f xs) ≡ sum_by n xs + k
+sum_last n f k [] x e h = absurd (cc)
+sum_last n f k (y ∷ []) x e h =
+    let same : y ≡ x = same_Some y x e in
+    let one : n (f y) ≡ n y + k = ap (λ a. n (f a)) same ∙ h ∙ ap (λ a. n a + k) (sym same) in
+    let a = sum_by-cons n (f y) [] in
+    let b = sum_by-cons n y [] in
+    omega (arith, a, b, one)
+sum_last n f k (y ∷ z ∷ xs) x e h =
+    sum_by-cons n y (with_last f (z ∷ xs))
+    ∙ ap (λ m. n y + m) (sum_last n f k (z ∷ xs) x e h)
+    ∙ regroup (n y) (sum_by n (z ∷ xs)) k
+    ∙ ap (λ m. m + k) (sym (sum_by-cons n y (z ∷ xs)))

@@ -1,5 +1,5 @@
--- Lines that lead from a set to another, each of which may follow the set with those before it.
-use Rattle.std.proofs.Common.{◌≡◌, ◌∙◌, sym, ap, subst, refl, ℕ, true, false, not, List, [], ◌∷◌, ◌++◌, map, append_assoc, Option, Some, None}
+-- Lines that lead from a set, and the entry that stands open behind it, to others, each of which may follow with those before it.
+use Rattle.std.proofs.Common.{◌≡◌, ◌∙◌, sym, ap, subst, refl, ℕ, Bool, true, false, not, List, [], ◌∷◌, ◌++◌, map, append_assoc, Option, Some, None}
 use Rattle.std.proofs.lemmas.List.{append-nil}
 use Rattle.std.specs.List.{flat_map}
 use Rattle.layout_model.specs.declared.set.Set.{Set}
@@ -14,22 +14,36 @@ use Rattle.layout_model.specs.declared.set.Static.{Static}
 use Rattle.layout_model.specs.declared.set.Variant.{Variant}
 use Rattle.layout_model.specs.declared.primitive.Primitive.{Primitive}
 use Rattle.type_names.specs.declared.name.Name.{Name}
+use Rattle.layout_file.specs.declared.kinds.LineKind.{LineKind}
 use Rattle.layout_file.specs.declared.kinds.LineKind.TheVariants as firsts
 use Rattle.layout_file.specs.declared.line.Line.{Line}
 use Rattle.layout_file.specs.declared.line.Line.TheVariants as lines
 use Rattle.layout_file.specs.Lines.{kind_of_line}
-use Rattle.layout_file.specs.Sets.{bare, variant_lines, tag_lines, part_lines, type_lines, lines_of, last_of, last_may_go_on, may_go_on, may_follow, is_empty}
-use Rattle.layout_file.specs.Additions.{with_field, with_part, added}
-use Rattle.layout_file.proofs.LastItems.{with_last_end, last_of_end}
+use Rattle.layout_file.specs.Sets.{bare, variant_lines, tag_lines, part_lines, type_lines, last_of, last_may_go_on, may_go_on, may_follow}
+use Rattle.layout_file.specs.Additions.{Draft, with_last, with_field, with_part, added}
+use Rattle.layout_file.proofs.LastItems.{with_last_end, last_of_end, some_end}
+use Rattle.layout_file.proofs.TypeAdding.{var_is_no_part}
 
--- the lines lead from the set to another
-abbrev pub Leads : Set → List Line → Set → Type 0
+-- the lines lead from a set and the entry that stands open to others
+abbrev pub Leads : Draft → List Line → Draft → Type 0
 Leads a [] b = a ≡ b
-Leads a (l ∷ ls) b = (may_follow a (kind_of_line l) ≡ true) × Leads (added a l) ls b
+Leads a (l ∷ ls) b = (may_follow a.0 a.1 (kind_of_line l) ≡ true) × Leads (added a.0 a.1 l) ls b
 
-pub leads_both : (a b c : Set) (xs ys : List Line) → Leads a xs b → Leads b ys c → Leads a (xs ++ ys) c
+pub leads_both : (a b c : Draft) (xs ys : List Line) → Leads a xs b → Leads b ys c → Leads a (xs ++ ys) c
 leads_both a b c [] ys p q = subst (λ s. Leads s ys c) (sym p) q
-leads_both a b c (x ∷ xs) ys p q = (p.0, leads_both (added a x) b c xs ys p.1 q)
+leads_both a b c (x ∷ xs) ys p q = (p.0, leads_both (added a.0 a.1 x) b c xs ys p.1 q)
+
+-- one more at the end, and those after it
+pub shift : {A : Type 0} (xs : List A) (x : A) (ys : List A) → (xs ++ x ∷ []) ++ ys ≡ xs ++ x ∷ ys
+shift xs x ys = append_assoc xs (x ∷ []) ys
+
+-- the lines of items lead to the set with them where those of each item do
+pub each_leads : {A : Type 0} (L : A → List Line) (S : List A → Set) → ((before : List A) (x : A) → Leads (S before, None) (L x) (S (before ++ x ∷ []), None))
+    → (before xs : List A) → Leads (S before, None) (flat_map L xs) (S (before ++ xs), None)
+each_leads L S h before [] = ap (λ ys. (S ys, None)) (sym (append-nil before))
+each_leads L S h before (x ∷ xs) =
+    leads_both (S before, None) (S (before ++ x ∷ []), None) (S (before ++ x ∷ xs), None) (L x) (flat_map L xs) (h before x)
+    (subst (λ ys. Leads (S (before ++ x ∷ []), None) (flat_map L xs) (S ys, None)) (shift before x xs) (each_leads L S h (before ++ x ∷ []) xs))
 
 -- the parts lead from the type to another
 abbrev PartsLead : TypeDef → List Line → TypeDef → Type 0
@@ -39,10 +53,6 @@ PartsLead a (l ∷ ls) b = (may_go_on a (kind_of_line l) ≡ true) × PartsLead 
 parts_both : (a b c : TypeDef) (xs ys : List Line) → PartsLead a xs b → PartsLead b ys c → PartsLead a (xs ++ ys) c
 parts_both a b c [] ys p q = subst (λ s. PartsLead s ys c) (sym p) q
 parts_both a b c (x ∷ xs) ys p q = (p.0, parts_both (with_part x a) b c xs ys p.1 q)
-
--- one more at the end, and those after it
-shift : {A : Type 0} (xs : List A) (x : A) (ys : List A) → (xs ++ x ∷ []) ++ ys ≡ xs ++ x ∷ ys
-shift xs x ys = append_assoc xs (x ∷ []) ys
 
 params_lead : (name : Name) (size align : ℕ) (before params : List Param) → PartsLead (Struct name size align before []) (map (λ p. lines.Param p) params) (Struct name size align (before ++ params) [])
 params_lead name size align before [] = ap (λ ps. Struct name size align ps []) (sym (append-nil before))
@@ -80,10 +90,6 @@ tag_leads : (name : Name) (size align : ℕ) (params : List Param) (tag : Option
 tag_leads name size align params None = refl
 tag_leads name size align params (Some t) = (refl, refl)
 
-some_variant : (variants : List Variant) (v : Variant) → is_empty (variants ++ v ∷ []) ≡ false
-some_variant [] v = refl
-some_variant (w ∷ variants) v = refl
-
 abbrev with_fields : Variant → List Field → Variant
 with_fields v fields = record v { fields = v.fields ++ fields }
 
@@ -94,7 +100,7 @@ variant_fields_lead name size align params tag before v (f ∷ fields) =
     let all : Variant = with_fields v (f ∷ fields) in
     let more = variant_fields_lead name size align params tag before (with_field f v) fields in
     let same = subst (λ fs. PartsLead (Enum name size align params tag (before ++ with_field f v ∷ [])) (map (λ x. lines.Field x) fields) (Enum name size align params tag (before ++ record v { fields = fs } ∷ []))) (shift v.fields f fields) more in (
-      ap not (some_variant before v),
+      ap not (some_end before v),
       subst (λ vs. PartsLead (Enum name size align params tag vs) (map (λ x. lines.Field x) fields) (Enum name size align params tag (before ++ all ∷ []))) (sym (with_last_end (with_field f) before v)) same,
     )
 
@@ -130,22 +136,30 @@ parts_lead (Enum name size align params tag variants) =
     (tag_leads name size align params tag) (variants_lead name size align params tag [] variants))
 parts_lead (Bytes name size align) = refl
 
--- a type or a static is no part
-no_part : (def : TypeDef) → ((may_go_on def firsts.Type ≡ true) → ⊥) × ((may_go_on def firsts.Static ≡ true) → ⊥)
-no_part (Struct name size align params fields) = (λ h. cc, λ h. cc)
-no_part (Array elem count) = (λ h. cc, λ h. cc)
-no_part (Thin kind to) = (λ h. cc, λ h. cc)
-no_part (Slice name kind ptr) = (λ h. cc, λ h. cc)
-no_part (Str name kind ptr) = (λ h. cc, λ h. cc)
-no_part (Dyn name kind ptr vtable) = (λ h. cc, λ h. cc)
-no_part FnPtr = (λ h. cc, λ h. cc)
-no_part (CLike name tag cases) = (λ h. cc, λ h. cc)
-no_part (Enum name size align params tag variants) = (λ h. cc, λ h. cc)
-no_part (Bytes name size align) = (λ h. cc, λ h. cc)
+abbrev is_part : LineKind → Bool
+is_part firsts.Param = true
+is_part firsts.Field = true
+is_part firsts.Case = true
+is_part firsts.Tag = true
+is_part firsts.Variant = true
+is_part kind = false
 
--- a set without statics
+goes_on_is_part : (def : TypeDef) (kind : LineKind) → may_go_on def kind ≡ true → is_part kind ≡ true
+goes_on_is_part (Struct name size align params fields) firsts.Param h = refl
+goes_on_is_part (Struct name size align params fields) firsts.Field h = refl
+goes_on_is_part (CLike name tag cases) firsts.Case h = refl
+goes_on_is_part (Enum name size align params tag variants) firsts.Param h = refl
+goes_on_is_part (Enum name size align params tag variants) firsts.Tag h = refl
+goes_on_is_part (Enum name size align params tag variants) firsts.Variant h = refl
+goes_on_is_part (Enum name size align params tag variants) firsts.Field h = refl
+goes_on_is_part def kind h = absurd (cc)
+
+no_part : (def : TypeDef) (kind : LineKind) → is_part kind ≡ false → may_go_on def kind ≡ true → ⊥
+no_part def kind e h = let p : true ≡ false = sym (goes_on_is_part def kind h) ∙ e in cc
+
+-- a set with types alone
 abbrev only_types : Target → List TypeDef → Set
-only_types target types = record { target = target; types = types; statics = [] }
+only_types target types = record { target = target; types = types; statics = []; funcs = [] }
 
 -- a set with no line behind the first two
 abbrev pub empty_set : Target → Set
@@ -154,45 +168,49 @@ empty_set target = only_types target []
 last_goes_on : (types : List TypeDef) (def : TypeDef) (l : Line) → may_go_on def (kind_of_line l) ≡ true → last_may_go_on (last_of (types ++ def ∷ [])) (kind_of_line l) ≡ true
 last_goes_on types def l h = ap (λ o. last_may_go_on o (kind_of_line l)) (last_of_end types def) ∙ h
 
-part_step : (target : Target) (types : List TypeDef) (def : TypeDef) (l : Line) → may_go_on def (kind_of_line l) ≡ true
-    → (may_follow (only_types target (types ++ def ∷ [])) (kind_of_line l) ≡ true) × (added (only_types target (types ++ def ∷ [])) l ≡ only_types target (types ++ with_part l def ∷ []))
-part_step target types def (lines.Type d) h = absurd ((no_part def).0 h)
-part_step target types def (lines.Param p) h = (last_goes_on types def (lines.Param p) h, ap (only_types target) (with_last_end (with_part (lines.Param p)) types def))
-part_step target types def (lines.Field f) h = (last_goes_on types def (lines.Field f) h, ap (only_types target) (with_last_end (with_part (lines.Field f)) types def))
-part_step target types def (lines.Case c) h = (last_goes_on types def (lines.Case c) h, ap (only_types target) (with_last_end (with_part (lines.Case c)) types def))
-part_step target types def (lines.Tag t) h = (last_goes_on types def (lines.Tag t) h, ap (only_types target) (with_last_end (with_part (lines.Tag t)) types def))
-part_step target types def (lines.Variant w sel) h = (last_goes_on types def (lines.Variant w sel) h, ap (only_types target) (with_last_end (with_part (lines.Variant w sel)) types def))
-part_step target types def (lines.Static s) h = absurd ((no_part def).1 h)
+with_last_part : (target : Target) (types : List TypeDef) (def : TypeDef) (l : Line)
+    → ◌≡◌ {A = Draft} (only_types target (with_last (with_part l) (types ++ def ∷ [])), None) (only_types target (types ++ with_part l def ∷ []), None)
+with_last_part target types def l = ap (λ ts. (only_types target ts, None)) (with_last_end (with_part l) types def)
 
-of_parts : (target : Target) (types : List TypeDef) (a b : TypeDef) (ls : List Line) → PartsLead a ls b → Leads (only_types target (types ++ a ∷ [])) ls (only_types target (types ++ b ∷ []))
-of_parts target types a b [] p = ap (λ d. only_types target (types ++ d ∷ [])) p
+part_step : (target : Target) (types : List TypeDef) (def : TypeDef) (l : Line) → may_go_on def (kind_of_line l) ≡ true
+    → (may_follow (only_types target (types ++ def ∷ [])) None (kind_of_line l) ≡ true) × (added (only_types target (types ++ def ∷ [])) None l ≡ (only_types target (types ++ with_part l def ∷ []), None))
+part_step target types def (lines.Type d) h = absurd (no_part def firsts.Type refl h)
+part_step target types def (lines.Param p) h = (last_goes_on types def (lines.Param p) h, with_last_part target types def (lines.Param p))
+part_step target types def (lines.Field f) h = (last_goes_on types def (lines.Field f) h, with_last_part target types def (lines.Field f))
+part_step target types def (lines.Case c) h = (last_goes_on types def (lines.Case c) h, with_last_part target types def (lines.Case c))
+part_step target types def (lines.Tag t) h = (last_goes_on types def (lines.Tag t) h, with_last_part target types def (lines.Tag t))
+part_step target types def (lines.Variant w sel) h = (last_goes_on types def (lines.Variant w sel) h, with_last_part target types def (lines.Variant w sel))
+part_step target types def (lines.Static s) h = absurd (no_part def firsts.Static refl h)
+part_step target types def (lines.Func f) h = absurd (no_part def firsts.Func refl h)
+part_step target types def (lines.Scope s) h = absurd (no_part def firsts.Scope refl h)
+part_step target types def (lines.Var v) h = absurd (var_is_no_part def v.param h)
+part_step target types def (lines.Whole lo hi place) h = absurd (no_part def firsts.At refl h)
+part_step target types def (lines.Pieces lo hi count) h = absurd (no_part def firsts.At refl h)
+part_step target types def (lines.Piece p) h = absurd (no_part def firsts.Piece refl h)
+
+of_parts : (target : Target) (types : List TypeDef) (a b : TypeDef) (ls : List Line) → PartsLead a ls b → Leads (only_types target (types ++ a ∷ []), None) ls (only_types target (types ++ b ∷ []), None)
+of_parts target types a b [] p = ap (λ d. (only_types target (types ++ d ∷ []), None)) p
 of_parts target types a b (l ∷ ls) p =
     let s = part_step target types a l p.0 in
-    (s.0, subst (λ set. Leads set ls (only_types target (types ++ b ∷ []))) (sym s.1) (of_parts target types (with_part l a) b ls p.1))
+    (s.0, subst (λ d. Leads d ls (only_types target (types ++ b ∷ []), None)) (sym s.1) (of_parts target types (with_part l a) b ls p.1))
 
-of_type : (target : Target) (types : List TypeDef) (def : TypeDef) → Leads (only_types target types) (type_lines def) (only_types target (types ++ def ∷ []))
+of_type : (target : Target) (types : List TypeDef) (def : TypeDef) → Leads (only_types target types, None) (type_lines def) (only_types target (types ++ def ∷ []), None)
 of_type target types def = (refl, of_parts target types (bare def) def (part_lines def) (parts_lead def))
 
-of_types : (target : Target) (before types : List TypeDef) → Leads (only_types target before) (flat_map type_lines types) (only_types target (before ++ types))
-of_types target before [] = ap (only_types target) (sym (append-nil before))
-of_types target before (def ∷ types) =
-    leads_both (only_types target before) (only_types target (before ++ def ∷ [])) (only_types target (before ++ def ∷ types)) (type_lines def) (flat_map type_lines types)
-    (of_type target before def)
-    (subst (λ ts. Leads (only_types target (before ++ def ∷ [])) (flat_map type_lines types) (only_types target ts)) (shift before def types) (of_types target (before ++ def ∷ []) types))
-
 abbrev with_statics : Target → List TypeDef → List Static → Set
-with_statics target types statics = record { target = target; types = types; statics = statics }
+with_statics target types statics = record { target = target; types = types; statics = statics; funcs = [] }
 
-of_statics : (target : Target) (types : List TypeDef) (before statics : List Static) → Leads (with_statics target types before) (map (λ s. lines.Static s) statics) (with_statics target types (before ++ statics))
-of_statics target types before [] = ap (with_statics target types) (sym (append-nil before))
+of_statics : (target : Target) (types : List TypeDef) (before statics : List Static) → Leads (with_statics target types before, None) (map (λ s. lines.Static s) statics) (with_statics target types (before ++ statics), None)
+of_statics target types before [] = ap (λ ss. (with_statics target types ss, None)) (sym (append-nil before))
 of_statics target types before (s ∷ statics) = (
   refl,
-  subst (λ ss. Leads (with_statics target types (before ++ s ∷ [])) (map (λ x. lines.Static x) statics) (with_statics target types ss)) (shift before s statics)
+  subst (λ ss. Leads (with_statics target types (before ++ s ∷ []), None) (map (λ x. lines.Static x) statics) (with_statics target types ss, None)) (shift before s statics)
       (of_statics target types (before ++ s ∷ []) statics),
 )
 
--- the lines of a set lead to it from the one with its target and no lines
-pub lines_lead : (set : Set) → Leads (empty_set set.target) (lines_of set) set
-lines_lead set =
-    leads_both (empty_set set.target) (only_types set.target set.types) set (flat_map type_lines set.types) (map (λ s. lines.Static s) set.statics)
-    (of_types set.target [] set.types) (of_statics set.target set.types [] set.statics)
+-- the lines of types and statics lead to the set with them and no functions
+pub types_lead : (set : Set)
+    → Leads (empty_set set.target, None) (flat_map type_lines set.types ++ map (λ s. lines.Static s) set.statics) (record set { funcs = [] }, None)
+types_lead set =
+    leads_both (empty_set set.target, None) (only_types set.target set.types, None) (record set { funcs = [] }, None) (flat_map type_lines set.types) (map (λ s. lines.Static s) set.statics)
+    (each_leads type_lines (only_types set.target) (of_type set.target) [] set.types) (of_statics set.target set.types [] set.statics)

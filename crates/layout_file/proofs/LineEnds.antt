@@ -1,6 +1,9 @@
 -- No line has the end of a line in its text.
-use Rattle.std.proofs.Common.{ℕ, ◌<◌, ◌≤◌, ◌^◌, List, ◌∷◌, ◌++◌, Option, Some, None, codes, arith, lit≤, lit<, refl}
+use Rattle.std.proofs.Common.{ℕ, ◌<◌, ◌≤◌, ◌^◌, List, [], ◌∷◌, ◌++◌, IfSome, Option, Some, None, codes, arith, lit≤, lit<, refl}
 use Rattle.std.specs.Fmt.{decimal}
+use Rattle.std.specs.List.{All}
+use Rattle.std.proofs.lemmas.List.Elements.{All-head, All-tail}
+use Rattle.readers.specs.Hex.{hex_text}
 use Rattle.readers.specs.Lines.{Lacks}
 use Rattle.readers.proofs.HexWords.{hex_lacks_lf}
 use Rattle.layout_model.specs.declared.set.TypeRef.{TypeRef}
@@ -9,15 +12,23 @@ use Rattle.layout_model.specs.declared.set.TypeDef.{TypeDef}
 use Rattle.layout_model.specs.declared.set.TypeDef.TheVariants.{Struct, Array, Thin, Slice, Str, Dyn, FnPtr, CLike, Enum, Bytes}
 use Rattle.layout_model.specs.declared.set.Selector.{Selector}
 use Rattle.layout_model.specs.declared.set.Selector.TheVariants.{Exact, Span, Only}
+use Rattle.layout_model.specs.declared.func.Place.{Place}
+use Rattle.layout_model.specs.declared.func.Place.TheVariants as place
+use Rattle.layout_file.specs.declared.kinds.PlaceKind.{PlaceKind}
+use Rattle.layout_file.specs.declared.kinds.PlaceKind.TheVariants as places
 use Rattle.layout_file.specs.declared.line.Line.{Line}
 use Rattle.layout_file.specs.declared.line.Line.TheVariants as lines
-use Rattle.layout_file.specs.Kinds.{line_kind_word, type_kind_word, selector_word, primitive_word}
+use Rattle.layout_file.specs.Kinds.{line_kind_word, type_kind_word, selector_word, primitive_word, place_word}
 use Rattle.layout_file.specs.Spellings.{Spelling, number, address, address_text, IsAddress, reference, reference_text, IsReference, pointer, primitive, word, name}
-use Rattle.layout_file.specs.Forms.{Left, Form, behind, nothing, ◌·◌, rest}
-use Rattle.layout_file.specs.Lines.{param_form, field_form, case_form, tag_form, static_form, sized_form, array_form, thin_form, fat_form, dyn_form, clike_form, exact_form, span_form, kind_of_type, type_rest, kind_of_selector, selector_rest, line_rest, kind_of_line, line_text, IsTypeLine, IsSelector, IsLine}
+use Rattle.layout_file.specs.PlaceSpellings.{register, frame, hex, signed, digits, zone, operation}
+use Rattle.layout_file.specs.Forms.{Left, Form, behind, nothing, ◌·◌, rest, words_text}
+use Rattle.layout_file.specs.Lines.{param_form, field_form, case_form, tag_form, static_form, sized_form, array_form, thin_form, fat_form, dyn_form, clike_form, exact_form, span_form, func_form, scope_form, reg_form, mem_form, fixed_form, value_form, count_form, kind_of_place, place_rest, kind_text, place_text, place_text_if, entry_rest, IsPlaceLine, kind_of_type, type_rest, kind_of_selector, selector_rest, line_rest, kind_of_line, line_text, IsTypeLine, IsSelector, IsLine}
 use Rattle.layout_file.proofs.Lacking.{lacks_nil, lacks_cons, lacks_append, free_lacks, decimal_lacks, word_lacks, no_end}
 use Rattle.layout_file.proofs.KindWords.{line_kind_found, type_kind_found, selector_kind_found, pointer_found, primitive_found}
 use Rattle.layout_file.proofs.NameEnds.{IsOpen, open_name}
+use Rattle.layout_file.proofs.Visible.{IsFrom, from_lacks, from_signed}
+use Rattle.layout_file.proofs.PlaceLaws.{register_visible, frame_visible, hex_visible, digits_visible, kind_visible, zone_visible}
+use Rattle.layout_file.proofs.OpLaws.{op_visible}
 
 -- the texts of items, and what a form leaves, have no end of a line
 
@@ -56,6 +67,10 @@ word_item = record { is_open = λ w h. word_lacks 10 (lit< tt) no_end w h }
 name_item : OpenItem name
 name_item = record { is_open = open_name }
 
+-- an item of visible characters
+visible_item : {A : Type 0} (S : Spelling A) → ((a : A) → S.Is a → IsFrom 45 (S.text a)) → OpenItem S
+visible_item S h = record { is_open = λ a is. from_lacks 45 10 (S.text a) (lit< tt) (h a is) }
+
 behind_space : (line : List ℕ) → IsOpen line → IsOpen (32 ∷ line)
 behind_space line h = lacks_cons 10 32 line (λ e. omega arith) h
 
@@ -67,6 +82,12 @@ open_then S F item more = record { is_open = λ p h. behind_space (S.text p.0 ++
 
 open_rest : {A : Type 0} (S : Spelling A) → OpenItem S → OpenForm (rest S)
 open_rest S item = record { is_open = λ a h. behind_space (S.text a) (item.is_open a h) }
+
+open_list : {A : Type 0} (S : Spelling A) → OpenItem S → (items : List A) → All S.Is items → IsOpen (behind (words_text S items))
+open_list S item [] h = lacks_nil 10
+open_list S item (a ∷ items) h =
+    behind_space (S.text a ++ behind (words_text S items))
+    (lacks_append 10 (S.text a) (behind (words_text S items)) (item.is_open a (All-head S.Is a items h)) (open_list S item items (All-tail S.Is a items h)))
 
 number_then : {B : Type 0} (bits : ℕ) (F : Form B) → bits ≤ 128 → OpenForm F → OpenForm (number bits · F)
 number_then bits F h more = open_then (number bits) F (number_item bits h) more
@@ -125,6 +146,52 @@ open_exact = number_then 128 _ (lit≤ tt) open_nothing
 open_span : OpenForm span_form
 open_span = number_then 128 _ (lit≤ tt) (number_then 128 _ (lit≤ tt) open_nothing)
 
+-- an item, the word of a kind, and what follows it
+kinded : (item kind : List ℕ) (left : Left) → IsOpen item → IsOpen kind → IsOpen (behind left) → IsOpen (behind (Some (item ++ behind (Some (kind ++ behind left)))))
+kinded item kind left h k l =
+    behind_space (item ++ behind (Some (kind ++ behind left))) (lacks_append 10 item (behind (Some (kind ++ behind left))) h (behind_space (kind ++ behind left) (lacks_append 10 kind (behind left) k l)))
+
+register_item : OpenItem register
+register_item = visible_item register (λ reg h. register_visible reg)
+
+open_func : OpenForm func_form
+open_func = open_then frame _ (visible_item frame (λ f h. frame_visible f)) one_name
+
+open_scope : OpenForm scope_form
+open_scope = number_then 32 _ (lit≤ tt) (record { is_open = open_list zone (visible_item zone zone_visible) })
+
+open_reg : OpenForm reg_form
+open_reg = open_then register nothing register_item open_nothing
+
+open_mem : OpenForm mem_form
+open_mem = open_then register _ register_item (open_then signed nothing (visible_item signed (λ z h. from_signed z (omega (arith, h.sfits)))) open_nothing)
+
+open_fixed : OpenForm fixed_form
+open_fixed = open_then hex nothing (visible_item hex hex_visible) open_nothing
+
+open_value : OpenForm value_form
+open_value = open_then digits nothing (visible_item digits digits_visible) open_nothing
+
+open_count : OpenForm count_form
+open_count = number_then 32 nothing (lit≤ tt) open_nothing
+
+open_place : (p : Place) → IsPlaceLine p → IsOpen (behind (place_rest p))
+open_place (place.Reg reg) h = open_reg.is_open (reg, tt) h
+open_place (place.Mem reg n) h = open_mem.is_open (reg, (n, tt)) h
+open_place (place.Fixed at) h = open_fixed.is_open (at, tt) h
+open_place (place.Value text) h = open_value.is_open (text, tt) h
+open_place (place.Expr ops) h = open_list operation (visible_item operation op_visible) ops h.0
+
+open_kind : (kind : PlaceKind) (left : Left) → IsOpen (behind left) → IsOpen (kind_text kind left)
+open_kind kind left h = lacks_append 10 (place_word kind) (behind left) (from_lacks 45 10 (place_word kind) (lit< tt) (kind_visible kind)) h
+
+open_place_if : (found : Option Place) → IfSome found IsPlaceLine → IsOpen (place_text_if found)
+open_place_if None h = free_lacks 10 (codes "none") refl
+open_place_if (Some p) h = open_kind (kind_of_place p) (place_rest p) (open_place p h)
+
+open_entry : (lo hi : ℕ) (text : List ℕ) → (lo < 2 ^ 64) × (hi < 2 ^ 64) → IsOpen text → IsOpen (behind (entry_rest lo hi text))
+open_entry lo hi text small h = kinded (hex_text lo) (hex_text hi) (Some text) (hex_lacks_lf lo small.0) (hex_lacks_lf hi small.1) (behind_space text h)
+
 open_type : (def : TypeDef) → IsTypeLine def → IsOpen (behind (type_rest def))
 open_type (Struct name size align params fields) h = open_sized.is_open (size, (align, name)) h.0
 open_type (Array elem count) h = open_array.is_open (count, (elem, tt)) h
@@ -142,11 +209,6 @@ open_selector (Exact n) h = open_exact.is_open (n, tt) h
 open_selector (Span lo hi) h = open_span.is_open (lo, (hi, tt)) h
 open_selector Only h = lacks_nil 10
 
--- an item, the word of a kind, and what follows it
-kinded : (item kind : List ℕ) (left : Left) → IsOpen item → IsOpen kind → IsOpen (behind left) → IsOpen (behind (Some (item ++ behind (Some (kind ++ behind left)))))
-kinded item kind left h k l =
-    behind_space (item ++ behind (Some (kind ++ behind left))) (lacks_append 10 item (behind (Some (kind ++ behind left))) h (behind_space (kind ++ behind left) (lacks_append 10 kind (behind left) k l)))
-
 open_line : (next : ℕ) (l : Line) → next < 2 ^ 32 → IsLine l → IsOpen (behind (line_rest next l))
 open_line next (lines.Type def) small h =
     kinded (decimal next) (type_kind_word (kind_of_type def)) (type_rest def) (decimal_lacks 10 32 next (lit≤ tt) (lit≤ tt) small) (free_lacks 10 (type_kind_word (kind_of_type def)) (type_kind_found (kind_of_type def)).1.1) (open_type def h)
@@ -157,6 +219,14 @@ open_line next (lines.Tag t) small h = open_tag.is_open (t.off, (t.prim, tt)) h
 open_line next (lines.Variant w sel) small h =
     kinded w (selector_word (kind_of_selector sel)) (selector_rest sel) (word_lacks 10 (lit< tt) no_end w h.0) (free_lacks 10 (selector_word (kind_of_selector sel)) (selector_kind_found (kind_of_selector sel)).1.1) (open_selector sel h.1)
 open_line next (lines.Static s) small h = open_static.is_open (s.addr, (s.ty, s.name)) h
+open_line next (lines.Func f) small h = open_func.is_open (f.frame, f.name) h.0
+open_line next (lines.Scope s) small h = open_scope.is_open (s.depth, s.zones) h.0
+open_line next (lines.Var v) small h = open_param.is_open (v.name, (v.ty, tt)) h.0
+open_line next (lines.Whole lo hi p) small h = open_entry lo hi (place_text p) h.0 (open_kind (kind_of_place p) (place_rest p) (open_place p h.1))
+open_line next (lines.Pieces lo hi count) small h = open_entry lo hi (kind_text places.Pieces (count_form.text (count, tt))) h.0 (open_kind places.Pieces (count_form.text (count, tt)) (open_count.is_open (count, tt) h.1))
+open_line next (lines.Piece p) small h =
+    let place = behind_space (place_text_if p.place) (open_place_if p.place h.1) in
+    behind_space (decimal p.size ++ behind (Some (place_text_if p.place))) (lacks_append 10 (decimal p.size) (behind (Some (place_text_if p.place))) (decimal_lacks 10 32 p.size (lit≤ tt) (lit≤ tt) h.0) place)
 
 pub text_has_no_end : (next : ℕ) (l : Line) → next < 2 ^ 32 → IsLine l → Lacks 10 (line_text next l)
 text_has_no_end next l small h =

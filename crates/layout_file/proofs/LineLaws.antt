@@ -1,5 +1,5 @@
 -- A text is read as the line that has it.
-use Rattle.std.proofs.Common.{◌≡◌, ◌∙◌, sym, ap, subst, refl, ℕ, ◌<◌, ◌^◌, List, [], ◌++◌, Some, None, lit≤}
+use Rattle.std.proofs.Common.{◌≡◌, ◌∙◌, sym, ap, subst, refl, ℕ, ◌<◌, ◌^◌, true, false, List, [], ◌++◌, Some, None, lit≤}
 use Rattle.std.specs.Fmt.{decimal}
 use Rattle.std.specs.Option.{option_map}
 use Rattle.layout_model.specs.declared.set.TypeDef.{TypeDef}
@@ -23,7 +23,8 @@ use Rattle.layout_file.proofs.Cuts.{cut_joins, cut_behind}
 use Rattle.layout_file.proofs.Lacking.{free_lacks}
 use Rattle.layout_file.proofs.KindWords.{line_kind_found, line_kind_says}
 use Rattle.layout_file.proofs.ItemLaws.{number_law, next_law, type_kind_law, selector_kind_law, pointer_law, primitive_law, address_law, reference_law, word_law, name_law, map_says}
-use Rattle.layout_file.proofs.FormLaws.{FormLaw, bind_says, took_says, took_some, nothing_law, then_law, rest_law}
+use Rattle.layout_file.proofs.FormLaws.{FormLaw, bind_says, took_says, took_some, nothing_law, then_law, rest_law, says_by, some_by}
+use Rattle.layout_file.proofs.FuncLaws.{IsLineOf, func_says, scope_says, var_says, at_says, piece_says, func_some, scope_some, var_some, whole_some, pieces_some, piece_some}
 
 -- each form
 
@@ -86,12 +87,6 @@ span_law = number_128 _ (number_128 nothing nothing_law)
 
 -- what is left of a line is that of the value, whose kind is known
 
-says_by : {A B : Type 0} (F : Form A) (law : FormLaw F) (f : A → B) (P : B → Type 0) (left : Left) (b : B) → option_map f (F.of left) ≡ Some b → ((a : A) → left ≡ F.text a → F.Is a → P (f a)) → P b
-says_by F law f P left b e h =
-    let found = map_says f (F.of left) b e in
-    let known = law.says left found.0 found.1 in
-    subst P found.2 (h found.0 known.0 known.1)
-
 abbrev IsTypeOf : TypeKind → Left → TypeDef → Type 0
 IsTypeOf kind left def = (kind ≡ kind_of_type def) × (left ≡ type_rest def) × IsTypeLine def
 
@@ -114,9 +109,6 @@ selector_says : (kind : SelectorKind) (left : Left) (sel : Selector) → selecto
 selector_says selectors.Exact left sel e = says_by exact_form exact_law (λ p. Exact p.0) (IsSelectorOf selectors.Exact left) left sel e (λ p t i. (refl, t, i))
 selector_says selectors.Span left sel e = says_by span_form span_law (λ p. Span p.0 p.1.0) (IsSelectorOf selectors.Span left) left sel e (λ p t i. (refl, t, i))
 selector_says selectors.Only left sel e = says_by nothing nothing_law (λ _. Only) (IsSelectorOf selectors.Only left) left sel e (λ p t i. (refl, t, tt))
-
-abbrev IsLineOf : ℕ → LineKind → Left → Line → Type 0
-IsLineOf next kind left l = (kind ≡ kind_of_line l) × (left ≡ line_rest next l) × IsLine l
 
 type_line_says : (next : ℕ) (left : Left) (def : TypeDef) → type_line_of next left ≡ Some def → IsLineOf next firsts.Type left (lines.Type def)
 type_line_says next left def e =
@@ -156,6 +148,12 @@ rest_says next firsts.Case left l e = says_by case_form case_law (λ p. lines.Ca
 rest_says next firsts.Tag left l e = says_by tag_form tag_law (λ p. lines.Tag (record { off = p.0; prim = p.1.0 })) (IsLineOf next firsts.Tag left) left l e (λ p t i. (refl, t, i))
 rest_says next firsts.Variant left l e = variant_says next left l e
 rest_says next firsts.Static left l e = says_by static_form static_law (λ p. lines.Static (record { name = p.1.1; ty = p.1.0; addr = p.0 })) (IsLineOf next firsts.Static left) left l e (λ p t i. (refl, t, i))
+rest_says next firsts.Func left l e = func_says next left l e
+rest_says next firsts.Scope left l e = scope_says next left l e
+rest_says next firsts.Var left l e = var_says next false left l e
+rest_says next firsts.Arg left l e = var_says next true left l e
+rest_says next firsts.At left l e = at_says next left l e
+rest_says next firsts.Piece left l e = piece_says next left l e
 
 -- a line that is read has its text, and is a line
 pub line_text_of : (next : ℕ) (text : List ℕ) (l : Line) → line_of next text ≡ Some l → (text ≡ line_text next l) × IsLine l
@@ -167,9 +165,6 @@ line_text_of next text l e =
     (cut_joins text ∙ ap (λ w. w ++ behind (cut text).1) first ∙ ap (λ m. line_kind_word (kind_of_line l) ++ behind m) known.1, known.2)
 
 -- and each line is read
-
-some_by : {A B : Type 0} (F : Form A) (law : FormLaw F) (f : A → B) (a : A) → F.Is a → option_map f (F.of (F.text a)) ≡ Some (f a)
-some_by F law f a h = ap (option_map f) (law.some a h)
 
 type_some : (def : TypeDef) → IsTypeLine def → type_of (kind_of_type def) (type_rest def) ≡ Some def
 type_some (Struct name size align params fields) h =
@@ -208,6 +203,12 @@ rest_some next (lines.Variant w sel) small h =
     ∙ ap (λ o. o >>= λ q. option_map (λ s. lines.Variant w s) (selector_of q.0 q.1)) (took_some selector_kind selector_kind_law (kind_of_selector sel) (selector_rest sel) tt)
     ∙ ap (option_map (λ s. lines.Variant w s)) (selector_some sel h.1)
 rest_some next (lines.Static s) small h = some_by static_form static_law (λ p. lines.Static (record { name = p.1.1; ty = p.1.0; addr = p.0 })) (s.addr, (s.ty, s.name)) h
+rest_some next (lines.Func f) small h = func_some next f h
+rest_some next (lines.Scope s) small h = scope_some next s h
+rest_some next (lines.Var v) small h = var_some next v h
+rest_some next (lines.Whole lo hi p) small h = whole_some lo hi p h.0 h.1
+rest_some next (lines.Pieces lo hi count) small h = pieces_some lo hi count h.0 h.1
+rest_some next (lines.Piece p) small h = piece_some p h
 
 pub line_of_text : (next : ℕ) (l : Line) → next < 2 ^ 32 → IsLine l → line_of next (line_text next l) ≡ Some l
 unfolding line_of

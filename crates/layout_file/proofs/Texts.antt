@@ -4,7 +4,6 @@ use Rattle.std.proofs.lemmas.Grind.{common_steps, flat_map-append}
 use Rattle.std.proofs.lemmas.List.{append-nil, take_more}
 use Rattle.std.specs.List.{flat_map}
 use Rattle.readers.specs.Lines.{with_end}
-use Rattle.layout_model.specs.declared.set.Set.{Set}
 use Rattle.layout_model.specs.declared.set.TypeDef.{TypeDef}
 use Rattle.layout_model.specs.declared.set.TypeDef.TheVariants.{Struct, Array, Thin, Slice, Str, Dyn, FnPtr, CLike, Enum, Bytes}
 use Rattle.layout_model.specs.declared.set.Param.{Param}
@@ -16,7 +15,7 @@ use Rattle.layout_model.specs.declared.set.Variant.{Variant}
 use Rattle.layout_file.specs.declared.line.Line.{Line}
 use Rattle.layout_file.specs.declared.line.Line.TheVariants as lines
 use Rattle.layout_file.specs.Lines.{line_text}
-use Rattle.layout_file.specs.Sets.{bare, variant_lines, tag_lines, part_lines, type_lines, texts, number_after, part_text, layout_text, head_text}
+use Rattle.layout_file.specs.Sets.{bare, variant_lines, tag_lines, part_lines, type_lines, texts, number_after, part_text}
 
 -- the number of the next type behind some lines
 abbrev pub number_behind : ℕ → List Line → ℕ
@@ -36,10 +35,10 @@ pub record HasNoNumber (ls : List Line) : Type 0 where
   pub text : (next : ℕ) → texts next ls ≡ flat_map part_text ls
   pub number : (next : ℕ) → number_behind next ls ≡ next
 
-no_line : HasNoNumber []
+pub no_line : HasNoNumber []
 no_line = record { text = λ next. refl; number = λ next. refl }
 
-both : (a b : List Line) → HasNoNumber a → HasNoNumber b → HasNoNumber (a ++ b)
+pub both : (a b : List Line) → HasNoNumber a → HasNoNumber b → HasNoNumber (a ++ b)
 both a b p q = record {
   text = λ next. texts-append next a b ∙ ap (λ n. texts next a ++ texts n b) (p.number next) ∙ ap (λ t. t ++ texts next b) (p.text next) ∙ ap (λ t. flat_map part_text a ++ t) (q.text next) ∙ sym (flat_map-append part_text a b);
   number = λ next. number_behind-append next a b ∙ ap (λ n. number_behind n b) (p.number next) ∙ q.number next;
@@ -125,8 +124,3 @@ types_text_more types i def h e =
     ∙ types_text-append 0 (take i types) (def ∷ [])
     ∙ ap (λ n. texts 0 (flat_map type_lines (take i types)) ++ texts n (type_lines def ++ [])) number
     ∙ ap (λ ls. texts 0 (flat_map type_lines (take i types)) ++ texts i ls) (append-nil (type_lines def))
-
-pub layout_text_parts : (set : Set) → layout_text set ≡ head_text set.target.ptr ++ (texts 0 (flat_map type_lines set.types) ++ flat_map part_text (map (λ s. lines.Static s) set.statics))
-layout_text_parts set =
-    ap (λ t. head_text set.target.ptr ++ t) (texts-append 0 (flat_map type_lines set.types) (map (λ s. lines.Static s) set.statics))
-    ∙ ap (λ t. head_text set.target.ptr ++ (texts 0 (flat_map type_lines set.types) ++ t)) ((of_statics set.statics).text (number_behind 0 (flat_map type_lines set.types)))

@@ -1,10 +1,17 @@
 -- A line that spells nothing which may stand there breaks a rule.
-use Rattle.std.proofs.Common.{◌≡◌, ◌∙◌, sym, ap, subst, refl, ℕ, ◌<◌, ◌≤◌, Bool, true, false, cond, ◌==◌, List, [], ◌∷◌, length, length-drop, drop, min, Option, Some, None, Ok, arith, lit≤}
+use Rattle.std.proofs.Common.{◌≡◌, ◌≢◌, ◌∙◌, sym, ap, subst, refl, ℕ, ◌<◌, ◌≤◌, Bool, true, false, cond, ◌==◌, List, [], ◌∷◌, length, drop, min, Option, Some, None, Ok, arith, lit≤}
 use Rattle.std.specs.Option.{option_map}
 use Rattle.std.specs.Str.{is_utf8}
+use Rattle.readers.specs.Hex.{hex_of}
+use Rattle.snapshot_file.specs.Registers.{reg_of}
+use Rattle.layout_model.specs.declared.func.Zone.{Zone}
 use Rattle.layout_model.specs.declared.set.Set.{Set}
 use Rattle.layout_model.specs.declared.set.TypeRef.TheVariants.{Prim, User}
+use Rattle.layout_file.specs.declared.line.Line.{Line}
 use Rattle.layout_file.specs.declared.line.Line.TheVariants as lines
+use Rattle.layout_file.specs.declared.open_entry.OpenEntry.{OpenEntry}
+use Rattle.layout_file.specs.declared.kinds.PlaceKind.{PlaceKind}
+use Rattle.layout_file.specs.declared.kinds.PlaceKind.TheVariants as place_kinds
 use Rattle.layout_file.specs.declared.kinds.TypeKind.{TypeKind}
 use Rattle.layout_file.specs.declared.kinds.TypeKind.TheVariants as kinds
 use Rattle.layout_file.specs.declared.kinds.SelectorKind.{SelectorKind}
@@ -13,12 +20,14 @@ use Rattle.layout_file.specs.declared.kinds.LineKind.{LineKind}
 use Rattle.layout_file.specs.declared.kinds.LineKind.TheVariants as firsts
 use Rattle.layout_file.specs.declared.slot.Slot.{Slot}
 use Rattle.layout_file.specs.declared.slot.Slot.TheVariants as slots
-use Rattle.layout_file.specs.Kinds.{line_kind_of, primitive_of, pointer_of}
+use Rattle.layout_file.specs.Kinds.{line_kind_of, primitive_of, pointer_of, entry_kind_of, piece_kind_of}
 use Rattle.layout_file.specs.Spellings.{Spelling, ◌>>=◌, number, number_of, the_next, next_of, address, address_of, reference, begins_with, pointer, primitive, type_kind, selector_kind, word, word_of, name, name_of}
-use Rattle.layout_file.specs.Forms.{Left, Form, cut, take_word, nothing, nothing_of, ◌·◌, rest}
-use Rattle.layout_file.specs.Lines.{param_form, field_form, case_form, tag_form, static_form, sized_form, array_form, thin_form, fat_form, dyn_form, clike_form, exact_form, span_form}
-use Rattle.layout_file.specs.ReadLines.{type_of, selector_of, type_line_of, variant_of, rest_of, line_of}
-use Rattle.layout_file.specs.Faults.{Front, behind, may_stand, next_number, unless, not_next, broken, lower, lowest_broken, fits, type_slots, selector_slots, first_word, second_word, places_if, places_by, places_of, rule_of_words, rule_of_kind, rule_of}
+use Rattle.layout_file.specs.PlaceSpellings.{register, frame, frame_of, hex, signed, signed_of, digits, digits_of, entry_kind, piece_kind, zone, zone_of}
+use Rattle.layout_file.specs.Forms.{Left, Form, cut, take_word, nothing, nothing_of, ◌·◌, rest, words, each_of, many, operations, operations_of}
+use Rattle.layout_file.specs.Lines.{func_form, scope_form, reg_form, mem_form, fixed_form, value_form, count_form, param_form, field_form, case_form, tag_form, static_form, sized_form, array_form, thin_form, fat_form, dyn_form, clike_form, exact_form, span_form}
+use Rattle.layout_file.specs.ReadLines.{type_of, selector_of, type_line_of, variant_of, place_of, entry_of, at_of, piece_place_of, piece_of, rest_of, line_of}
+use Rattle.layout_file.specs.Faults.{Front, behind, may_stand, next_number, unless, not_next, broken, is_optional, lower, lowest_of, broken_zone, broken_op, lowest_broken, fits, type_slots, selector_slots, place_slots, first_word, second_word, places_if, places_by, places_of, rule_of_words, rule_of_kind, rule_of}
+use Rattle.layout_file.proofs.PlaceLaws.{entry_kind_law, piece_kind_law}
 
 -- a rule is broken
 abbrev pub IsBroken : Option ℕ → Type 0
@@ -30,24 +39,7 @@ lower_none (Some a) = refl
 
 pub lowest_none : (next : ℕ) (places : List Slot) → lowest_broken next places None ≡ None
 lowest_none next [] = refl
-lowest_none next (slots.Version ∷ more) = refl
-lowest_none next (slots.Next ∷ more) = refl
-lowest_none next (slots.Number bits ∷ more) = refl
-lowest_none next (slots.Address ∷ more) = refl
-lowest_none next (slots.Reference ∷ more) = refl
-lowest_none next (slots.Pointer ∷ more) = refl
-lowest_none next (slots.Primitive ∷ more) = refl
-lowest_none next (slots.Kind ∷ more) = refl
-lowest_none next (slots.Word ∷ more) = refl
-lowest_none next (slots.Name ∷ more) = refl
-
-no_places : (places : List Slot) → 0 < length places → fits places None ≡ false
-no_places [] h = absurd (omega arith)
-no_places (slot ∷ more) h = refl
-
--- where words are missing
-pub fits_short : (places : List Slot) (i : ℕ) → i < length places → fits (drop i places) None ≡ false
-fits_short places i h = no_places (drop i places) (grind (arith, length-drop))
+lowest_none next (slot ∷ more) = refl
 
 lower_left : (a b : Option ℕ) → IsBroken a → IsBroken (lower a b)
 lower_left None b h = absurd (cc)
@@ -66,6 +58,7 @@ pub record WordFault {A : Type 0} (next : ℕ) (S : Spelling A) : Type 0 where
   pub broke : (text : List ℕ) → S.of text ≡ None → IsBroken (broken next S.slot text)
   pub lowest : (more : List Slot) (line : List ℕ) → lowest_broken next (S.slot ∷ more) (Some line) ≡ lower (broken next S.slot (cut line).0) (lowest_broken next more (cut line).1)
   pub fit : (more : List Slot) (line : List ℕ) → fits (S.slot ∷ more) (Some line) ≡ fits more (cut line).1
+  pub needed : is_optional S.slot ≡ false
 
 unless_broken : {A : Type 0} (rule : ℕ) (o : Option A) → o ≡ None → IsBroken (unless rule o)
 unless_broken rule None e = (rule, refl)
@@ -80,6 +73,7 @@ number_fault next bits h = record {
   broke = λ text e. let same : min bits 128 ≡ bits = omega arith in unless_broken 4 (number_of (min bits 128) text) (ap (λ b. number_of b text) same ∙ e);
   lowest = λ more line. refl;
   fit = λ more line. refl;
+  needed = refl;
 }
 
 next_broken : (next : ℕ) (o : Option ℕ) → next_of next o ≡ None → IsBroken (not_next next o)
@@ -91,26 +85,41 @@ next_broken next (Some n) e = by_test (n == next) e
     by_test false q = (5, refl)
 
 next_fault : (next : ℕ) → WordFault next (the_next next)
-next_fault next = record { broke = λ text e. next_broken next (number_of 32 text) e; lowest = λ more line. refl; fit = λ more line. refl }
+next_fault next = record { broke = λ text e. next_broken next (number_of 32 text) e; lowest = λ more line. refl; fit = λ more line. refl; needed = refl }
 
 address_fault : (next : ℕ) → WordFault next address
-address_fault next = record { broke = λ text e. unless_broken 4 (address_of text) e; lowest = λ more line. refl; fit = λ more line. refl }
+address_fault next = record { broke = λ text e. unless_broken 4 (address_of text) e; lowest = λ more line. refl; fit = λ more line. refl; needed = refl }
 
 reference_broken : (text : List ℕ) (b : Bool) → cond b (option_map (λ n. User n) (number_of 32 (drop 1 text))) (option_map (λ p. Prim p) (primitive_of text)) ≡ None → IsBroken (cond b (unless 4 (number_of 32 (drop 1 text))) (unless 7 (primitive_of text)))
 reference_broken text true e = unless_broken 4 (number_of 32 (drop 1 text)) (map_none (λ n. User n) (number_of 32 (drop 1 text)) e)
 reference_broken text false e = unless_broken 7 (primitive_of text) (map_none (λ p. Prim p) (primitive_of text) e)
 
 reference_fault : (next : ℕ) → WordFault next reference
-reference_fault next = record { broke = λ text e. reference_broken text (begins_with 35 text) e; lowest = λ more line. refl; fit = λ more line. refl }
+reference_fault next = record { broke = λ text e. reference_broken text (begins_with 35 text) e; lowest = λ more line. refl; fit = λ more line. refl; needed = refl }
 
 pointer_fault : (next : ℕ) → WordFault next pointer
-pointer_fault next = record { broke = λ text e. unless_broken 7 (pointer_of text) e; lowest = λ more line. refl; fit = λ more line. refl }
+pointer_fault next = record { broke = λ text e. unless_broken 7 (pointer_of text) e; lowest = λ more line. refl; fit = λ more line. refl; needed = refl }
 
 primitive_fault : (next : ℕ) → WordFault next primitive
-primitive_fault next = record { broke = λ text e. unless_broken 7 (primitive_of text) e; lowest = λ more line. refl; fit = λ more line. refl }
+primitive_fault next = record { broke = λ text e. unless_broken 7 (primitive_of text) e; lowest = λ more line. refl; fit = λ more line. refl; needed = refl }
+
+frame_fault : (next : ℕ) → WordFault next frame
+frame_fault next = record { broke = λ text e. unless_broken 7 (frame_of text) e; lowest = λ more line. refl; fit = λ more line. refl; needed = refl }
+
+register_fault : (next : ℕ) → WordFault next register
+register_fault next = record { broke = λ text e. unless_broken 7 (reg_of text) e; lowest = λ more line. refl; fit = λ more line. refl; needed = refl }
+
+signed_fault : (next : ℕ) → WordFault next signed
+signed_fault next = record { broke = λ text e. unless_broken 4 (signed_of 31 text) e; lowest = λ more line. refl; fit = λ more line. refl; needed = refl }
+
+hex_fault : (next : ℕ) → WordFault next hex
+hex_fault next = record { broke = λ text e. unless_broken 4 (hex_of text) e; lowest = λ more line. refl; fit = λ more line. refl; needed = refl }
+
+digits_fault : (next : ℕ) → WordFault next digits
+digits_fault next = record { broke = λ text e. unless_broken 7 (digits_of text) e; lowest = λ more line. refl; fit = λ more line. refl; needed = refl }
 
 word_fault : (next : ℕ) → WordFault next word
-word_fault next = record { broke = λ text e. unless_broken 6 (word_of text) e; lowest = λ more line. refl; fit = λ more line. refl }
+word_fault next = record { broke = λ text e. unless_broken 6 (word_of text) e; lowest = λ more line. refl; fit = λ more line. refl; needed = refl }
 
 -- forms
 
@@ -136,13 +145,38 @@ after_none : {A B : Type 0} (o : Option B) (f : B → A) → (o >>= λ b. Some (
 after_none None f e = refl
 after_none (Some b) f e = absurd (cc)
 
+-- one of the zones is none
+zones_broken : (ws : List (List ℕ)) → each_of zone ws ≡ None → IsBroken (lowest_of broken_zone ws)
+zones_broken [] e = absurd (cc)
+zones_broken (w ∷ ws) e = by_first (zone_of w) refl (λ rest. zones_broken ws rest)
+  where
+    by_first : (o : Option Zone) → zone_of w ≡ o → (each_of zone ws ≡ None → IsBroken (lowest_of broken_zone ws)) → IsBroken (lower (unless 4 (zone_of w)) (lowest_of broken_zone ws))
+    by_first None is more = lower_left (unless 4 (zone_of w)) (lowest_of broken_zone ws) (unless_broken 4 (zone_of w) is)
+    by_first (Some a) is more =
+        let rest : each_of zone ws ≡ None = after_none (each_of zone ws) (λ xs. a ∷ xs) (sym (ap (λ o. o >>= λ x. each_of zone ws >>= λ xs. Some (x ∷ xs)) is) ∙ e) in
+        lower_right (unless 4 (zone_of w)) (lowest_of broken_zone ws) (more rest)
+
+many_zones_broke : (next : ℕ) (left : Left) → (many zone).of left ≡ None → fits (many zone).slots left ≡ true → IsBroken (lowest_broken next (many zone).slots left)
+many_zones_broke next None e h = absurd (cc)
+many_zones_broke next (Some line) e h = zones_broken (words line) e
+
+zones_fault : (next : ℕ) → Faulty next (many zone)
+zones_fault next = record { broke = many_zones_broke next }
+
+operations_broke : (next : ℕ) (left : Left) → operations.of left ≡ None → fits operations.slots left ≡ true → IsBroken (lowest_broken next operations.slots left)
+operations_broke next None e h = absurd (cc)
+operations_broke next (Some line) e h = lower_right (lowest_of broken_op (words line)) (unless 7 (operations_of (Some line))) (unless_broken 7 (operations_of (Some line)) e)
+
+operations_fault : (next : ℕ) → Faulty next operations
+operations_fault next = record { broke = operations_broke next }
+
 -- the word is no such item, or what follows it is no such value
 either_fault : {A B P : Type 0} (o : Option A) (left : Left) (f : A × Left → Option B) → ((o >>= λ a. Some (a, left)) >>= f) ≡ None → (o ≡ None → P) → ((a : A) → o ≡ Some a → f (a, left) ≡ None → P) → P
 either_fault None left f e g h = g refl
 either_fault (Some a) left f e g h = h a refl e
 
 then_broke : {A B : Type 0} (next : ℕ) (S : Spelling A) (F : Form B) → WordFault next S → Faulty next F → (left : Left) → (S · F).of left ≡ None → fits (S.slot ∷ F.slots) left ≡ true → IsBroken (lowest_broken next (S.slot ∷ F.slots) left)
-then_broke next S F fault more None e h = absurd (cc)
+then_broke next S F fault more None e h = let no : true ≡ false = sym h ∙ fault.needed in absurd (cc)
 then_broke next S F fault more (Some line) e h =
     subst IsBroken (sym (fault.lowest F.slots line))
     (either_fault (S.of (cut line).0) (cut line).1 (λ p. F.of p.1 >>= λ b. Some (p.0, b)) e
@@ -151,6 +185,13 @@ then_broke next S F fault more (Some line) e h =
 
 pub then_fault : {A B : Type 0} (next : ℕ) (S : Spelling A) (F : Form B) → WordFault next S → Faulty next F → Faulty next (S · F)
 then_fault next S F fault more = record { broke = then_broke next S F fault more }
+
+-- no entry is nowhere, and no piece is in pieces
+entry_kind_is : (text : List ℕ) (k : PlaceKind) → entry_kind_of text ≡ Some k → k ≢ place_kinds.Nowhere
+entry_kind_is text k is = (entry_kind_law.law.says text k is).1
+
+piece_kind_is : (text : List ℕ) (k : PlaceKind) → piece_kind_of text ≡ Some k → k ≢ place_kinds.Pieces
+piece_kind_is text k is = (piece_kind_law.law.says text k is).1
 
 module _ (next : ℕ) where
   number_then : {B : Type 0} (bits : ℕ) (F : Form B) → bits ≤ 128 → Faulty next F → Faulty next (number bits · F)
@@ -210,7 +251,28 @@ module _ (next : ℕ) where
   span_fault : Faulty next span_form
   span_fault = number_then 128 _ (lit≤ tt) (number_then 128 _ (lit≤ tt) (nothing_fault next))
 
-  -- kinds of types and variants
+  func_fault : Faulty next func_form
+  func_fault = then_fault next frame _ (frame_fault next) one_name
+
+  scope_fault : Faulty next scope_form
+  scope_fault = number_then 32 _ (lit≤ tt) (zones_fault next)
+
+  reg_fault : Faulty next reg_form
+  reg_fault = then_fault next register nothing (register_fault next) (nothing_fault next)
+
+  mem_fault : Faulty next mem_form
+  mem_fault = then_fault next register _ (register_fault next) (then_fault next signed nothing (signed_fault next) (nothing_fault next))
+
+  fixed_fault : Faulty next fixed_form
+  fixed_fault = then_fault next hex nothing (hex_fault next) (nothing_fault next)
+
+  value_fault : Faulty next value_form
+  value_fault = then_fault next digits nothing (digits_fault next) (nothing_fault next)
+
+  count_fault : Faulty next count_form
+  count_fault = number_then 32 _ (lit≤ tt) (nothing_fault next)
+
+  -- kinds of types, variants and places
 
   of_form : {A B : Type 0} (F : Form A) (fault : Faulty next F) (f : A → B) (left : Left) → option_map f (F.of left) ≡ None → fits F.slots left ≡ true → IsBroken (lowest_broken next F.slots left)
   of_form F fault f left e h = fault.broke left (map_none f (F.of left) e) h
@@ -232,6 +294,25 @@ module _ (next : ℕ) where
   selector_fault selectors.Span left e h = of_form span_form span_fault _ left e h
   selector_fault selectors.Only left e h = of_form nothing (nothing_fault next) _ left e h
 
+  -- what an entry is, and a piece
+  entry_fault : (lo hi : ℕ) (kind : PlaceKind) (left : Left) → kind ≢ place_kinds.Nowhere → entry_of lo hi kind left ≡ None → fits (place_slots kind) left ≡ true → IsBroken (lowest_broken next (place_slots kind) left)
+  entry_fault lo hi place_kinds.Reg left may e h = of_form reg_form reg_fault _ left (map_none _ (place_of place_kinds.Reg left) e) h
+  entry_fault lo hi place_kinds.Mem left may e h = of_form mem_form mem_fault _ left (map_none _ (place_of place_kinds.Mem left) e) h
+  entry_fault lo hi place_kinds.Fixed left may e h = of_form fixed_form fixed_fault _ left (map_none _ (place_of place_kinds.Fixed left) e) h
+  entry_fault lo hi place_kinds.Value left may e h = of_form value_form value_fault _ left (map_none _ (place_of place_kinds.Value left) e) h
+  entry_fault lo hi place_kinds.Expr left may e h = of_form operations (operations_fault next) _ left (map_none _ (place_of place_kinds.Expr left) e) h
+  entry_fault lo hi place_kinds.Pieces left may e h = of_form count_form count_fault _ left e h
+  entry_fault lo hi place_kinds.Nowhere left may e h = absurd (may refl)
+
+  piece_fault : (kind : PlaceKind) (left : Left) → kind ≢ place_kinds.Pieces → piece_place_of kind left ≡ None → fits (place_slots kind) left ≡ true → IsBroken (lowest_broken next (place_slots kind) left)
+  piece_fault place_kinds.Reg left may e h = of_form reg_form reg_fault _ left (map_none _ (place_of place_kinds.Reg left) e) h
+  piece_fault place_kinds.Mem left may e h = of_form mem_form mem_fault _ left (map_none _ (place_of place_kinds.Mem left) e) h
+  piece_fault place_kinds.Fixed left may e h = of_form fixed_form fixed_fault _ left (map_none _ (place_of place_kinds.Fixed left) e) h
+  piece_fault place_kinds.Value left may e h = of_form value_form value_fault _ left (map_none _ (place_of place_kinds.Value left) e) h
+  piece_fault place_kinds.Expr left may e h = of_form operations (operations_fault next) _ left (map_none _ (place_of place_kinds.Expr left) e) h
+  piece_fault place_kinds.Pieces left may e h = absurd (may refl)
+  piece_fault place_kinds.Nowhere left may e h = of_form nothing (nothing_fault next) _ left e h
+
   -- the rule of words is some rule, where so much holds of what fits
   by_fit : (left : Left) (places : List Slot) → (fits places left ≡ true → IsBroken (lowest_broken next places left)) → IsBroken (rule_of_words next left (Ok places))
   by_fit left places h = by_test (fits places left) h
@@ -241,8 +322,9 @@ module _ (next : ℕ) where
       by_test false g = (3, refl)
 
   -- a line whose kind is its second word
-  module _ {A K B : Type 0} (S : Spelling A) (fault : WordFault next S) (T : Spelling K) (slots_of : K → List Slot) (value : A → K → Left → Option B)
-      (value_fault : (a : A) (k : K) (left : Left) → value a k left ≡ None → fits (slots_of k) left ≡ true → IsBroken (lowest_broken next (slots_of k) left)) where
+  module _ {A K B : Type 0} (S : Spelling A) (fault : WordFault next S) (T : Spelling K) (May : K → Type 0) (known : (text : List ℕ) (k : K) → T.of text ≡ Some k → May k)
+      (slots_of : K → List Slot) (value : A → K → Left → Option B)
+      (value_fault : (a : A) (k : K) (left : Left) → May k → value a k left ≡ None → fits (slots_of k) left ≡ true → IsBroken (lowest_broken next (slots_of k) left)) where
     abbrev Unread : Left → Type 0
     Unread left = (take_word S left >>= λ p. take_word T p.1 >>= λ q. value p.0 q.0 q.1) ≡ None
 
@@ -259,7 +341,7 @@ module _ (next : ℕ) where
         let unread : value a k (cut behind_first).1 ≡ None =
         sym (ap (λ l. take_word T l >>= λ q. value a q.0 q.1) after ∙ ap (λ o. paired o >>= λ q. value a q.0 q.1) is) ∙ none in
         lower_right (broken next S.slot (cut line).0) (lowest_broken next more (cut line).1)
-        (subst (λ l. IsBroken (lowest_broken next more l)) (sym after) (value_fault a k (cut behind_first).1 unread fit))))
+        (subst (λ l. IsBroken (lowest_broken next more l)) (sym after) (value_fault a k (cut behind_first).1 (known (cut behind_first).0 k is) unread fit))))
 
     abbrev places : K → List Slot
     places k = S.slot ∷ slots.Kind ∷ slots_of k
@@ -277,27 +359,76 @@ module _ (next : ℕ) where
     kinded (Some line) e = by_second line e (cut line).1 refl
 
   type_line_fault : (left : Left) → type_line_of next left ≡ None → IsBroken (rule_of_words next left (places_of firsts.Type left))
-  type_line_fault left e = kinded (the_next next) (next_fault next) type_kind type_slots (λ a k l. type_of k l) (λ a k l n h. type_fault k l n h) left e
+  type_line_fault left e = kinded (the_next next) (next_fault next) type_kind (λ _. Unit {0}) (λ text k is. tt) type_slots (λ a k l. type_of k l) (λ a k l may n h. type_fault k l n h) left e
 
   variant_fault : (left : Left) → variant_of left ≡ None → IsBroken (rule_of_words next left (places_of firsts.Variant left))
   variant_fault left e =
-      kinded word (word_fault next) selector_kind selector_slots (λ w k l. option_map (λ sel. lines.Variant w sel) (selector_of k l))
-      (λ w k l n h. selector_fault k l (map_none (λ sel. lines.Variant w sel) (selector_of k l) n) h) left e
+      kinded word (word_fault next) selector_kind (λ _. Unit {0}) (λ text k is. tt) selector_slots (λ w k l. option_map (λ sel. lines.Variant w sel) (selector_of k l))
+      (λ w k l may n h. selector_fault k l (map_none (λ sel. lines.Variant w sel) (selector_of k l) n) h) left e
+
+  piece_line_fault : (left : Left) → piece_of left ≡ None → IsBroken (rule_of_words next left (places_of firsts.Piece left))
+  piece_line_fault left e =
+      kinded (number 32) (number_fault next 32 (lit≤ tt)) piece_kind (λ k. k ≢ place_kinds.Pieces) piece_kind_is place_slots
+      (λ size k l. option_map (λ found. lines.Piece (record { size = size; place = found })) (piece_place_of k l))
+      (λ size k l may n h. piece_fault k l may (map_none _ (piece_place_of k l) n) h) left e
+
+  abbrev entry_places : PlaceKind → List Slot
+  entry_places k = slots.Hex ∷ slots.Hex ∷ slots.Kind ∷ place_slots k
+
+  -- an entry, whose kind is its third word
+  entry_known : (line second third : List ℕ) → (cut line).1 ≡ Some second → (cut second).1 ≡ Some third → (k : PlaceKind) → entry_kind_of (cut third).0 ≡ Some k → at_of (Some line) ≡ None
+      → fits (entry_places k) (Some line) ≡ true → IsBroken (lowest_broken next (entry_places k) (Some line))
+  entry_known line second third after beyond k is e h =
+      let more = slots.Hex ∷ slots.Kind ∷ place_slots k in
+      let read_more : ℕ → Left → Option Line = λ lo l. take_word hex l >>= λ q. take_word entry_kind q.1 >>= λ r. entry_of lo q.0 r.0 r.1 in
+      either_fault (hex_of (cut line).0) (cut line).1 (λ p. read_more p.0 p.1) e
+      (λ none. lower_left (broken next slots.Hex (cut line).0) (lowest_broken next more (cut line).1) ((hex_fault next).broke (cut line).0 none))
+      (λ lo some none.
+      let unread : read_more lo (Some second) ≡ None = ap (read_more lo) (sym after) ∙ none in
+      let fit : fits more (Some second) ≡ true = ap (fits more) (sym after) ∙ h in
+      lower_right (broken next slots.Hex (cut line).0) (lowest_broken next more (cut line).1)
+      (subst (λ l. IsBroken (lowest_broken next more l)) (sym after)
+      (kind_known hex (hex_fault next) entry_kind (λ x. x ≢ place_kinds.Nowhere) entry_kind_is place_slots (λ hi x l. entry_of lo hi x l) (λ hi x l may n g. entry_fault lo hi x l may n g) second third beyond k is unread fit)))
+
+  entry_by_kind : (line second third : List ℕ) → (cut line).1 ≡ Some second → (cut second).1 ≡ Some third → at_of (Some line) ≡ None → (o : Option PlaceKind) → entry_kind_of (cut third).0 ≡ o
+      → IsBroken (rule_of_words next (Some line) (places_if entry_places o))
+  entry_by_kind line second third after beyond e None is = (2, refl)
+  entry_by_kind line second third after beyond e (Some k) is = by_fit (Some line) (entry_places k) (entry_known line second third after beyond k is e)
+
+  entry_by_third : (line second : List ℕ) → (cut line).1 ≡ Some second → at_of (Some line) ≡ None → (l : Left) → (cut second).1 ≡ l → IsBroken (rule_of_words next (Some line) (places_by entry_places entry_kind_of (first_word l)))
+  entry_by_third line second after e None beyond = (3, refl)
+  entry_by_third line second after e (Some third) beyond = entry_by_kind line second third after beyond e (entry_kind_of (cut third).0) refl
+
+  entry_by_second : (line : List ℕ) → at_of (Some line) ≡ None → (l : Left) → (cut line).1 ≡ l → IsBroken (rule_of_words next (Some line) (places_by entry_places entry_kind_of (second_word l)))
+  entry_by_second line e None after = (3, refl)
+  entry_by_second line e (Some second) after = entry_by_third line second after e (cut second).1 refl
+
+  entry_line_fault : (left : Left) → at_of left ≡ None → IsBroken (rule_of_words next left (places_of firsts.At left))
+  entry_line_fault None e = (3, refl)
+  entry_line_fault (Some line) e = entry_by_second line e (cut line).1 refl
 
   of_line : {A B : Type 0} (F : Form A) (fault : Faulty next F) (f : A → B) (left : Left) → option_map f (F.of left) ≡ None → IsBroken (rule_of_words next left (Ok F.slots))
   of_line F fault f left e = by_fit left F.slots (of_form F fault f left e)
 
   -- what stands behind the first word
-  rest_fault : (set : Set) (kind : LineKind) (left : Left) → may_stand (behind set) kind ≡ true → rest_of next kind left ≡ None → IsBroken (rule_of_words next left (places_of kind left))
-  rest_fault set firsts.Version left may e = absurd (cc)
-  rest_fault set firsts.Target left may e = absurd (cc)
-  rest_fault set firsts.Type left may e = type_line_fault left (map_none (λ def. lines.Type def) (type_line_of next left) e)
-  rest_fault set firsts.Param left may e = of_line param_form param_fault _ left e
-  rest_fault set firsts.Field left may e = of_line field_form field_fault _ left e
-  rest_fault set firsts.Case left may e = of_line case_form case_fault _ left e
-  rest_fault set firsts.Tag left may e = of_line tag_form tag_fault _ left e
-  rest_fault set firsts.Variant left may e = variant_fault left e
-  rest_fault set firsts.Static left may e = of_line static_form static_fault _ left e
+  rest_fault : (set : Set) (begun : Option OpenEntry) (kind : LineKind) (left : Left) → may_stand (behind set begun) kind ≡ true → rest_of next kind left ≡ None → IsBroken (rule_of_words next left (places_of kind left))
+  rest_fault set None firsts.Version left may e = absurd (cc)
+  rest_fault set (Some o) firsts.Version left may e = absurd (cc)
+  rest_fault set None firsts.Target left may e = absurd (cc)
+  rest_fault set (Some o) firsts.Target left may e = absurd (cc)
+  rest_fault set begun firsts.Type left may e = type_line_fault left (map_none (λ def. lines.Type def) (type_line_of next left) e)
+  rest_fault set begun firsts.Param left may e = of_line param_form param_fault _ left e
+  rest_fault set begun firsts.Field left may e = of_line field_form field_fault _ left e
+  rest_fault set begun firsts.Case left may e = of_line case_form case_fault _ left e
+  rest_fault set begun firsts.Tag left may e = of_line tag_form tag_fault _ left e
+  rest_fault set begun firsts.Variant left may e = variant_fault left e
+  rest_fault set begun firsts.Static left may e = of_line static_form static_fault _ left e
+  rest_fault set begun firsts.Func left may e = of_line func_form func_fault _ left e
+  rest_fault set begun firsts.Scope left may e = of_line scope_form scope_fault _ left e
+  rest_fault set begun firsts.Var left may e = of_line param_form param_fault _ left e
+  rest_fault set begun firsts.Arg left may e = of_line param_form param_fault _ left e
+  rest_fault set begun firsts.At left may e = entry_line_fault left e
+  rest_fault set begun firsts.Piece left may e = piece_line_fault left e
 
 -- whole lines
 
@@ -323,10 +454,10 @@ misplaced_breaks front text kind e misplaced =
     (in_place (may_stand front kind) (rule_of_words (next_number front) (cut text).1 (places_of kind (cut text).1)) (λ yes. absurd (cc))))
 
 -- a line of a kind that may stand there, and that spells nothing
-pub unfit_breaks : (set : Set) (text : List ℕ) (kind : LineKind) → line_kind_of (cut text).0 ≡ Some kind → may_stand (behind set) kind ≡ true → line_of (length set.types) text ≡ None → IsBroken (rule_of (behind set) text)
+pub unfit_breaks : (set : Set) (begun : Option OpenEntry) (text : List ℕ) (kind : LineKind) → line_kind_of (cut text).0 ≡ Some kind → may_stand (behind set begun) kind ≡ true → line_of (length set.types) text ≡ None → IsBroken (rule_of (behind set begun) text)
 unfolding rule_of line_of
-unfit_breaks set text kind e may none =
+unfit_breaks set begun text kind e may none =
     let unread : rest_of (length set.types) kind (cut text).1 ≡ None = sym (ap (λ o. o >>= λ k. rest_of (length set.types) k (cut text).1) e) ∙ none in
-    in_text (is_utf8 text) (rule_of_kind (behind set) (cut text).1 (line_kind_of (cut text).0))
-    (subst (λ o. IsBroken (rule_of_kind (behind set) (cut text).1 o)) (sym e)
-    (in_place (may_stand (behind set) kind) (rule_of_words (length set.types) (cut text).1 (places_of kind (cut text).1)) (λ yes. rest_fault (length set.types) set kind (cut text).1 may unread)))
+    in_text (is_utf8 text) (rule_of_kind (behind set begun) (cut text).1 (line_kind_of (cut text).0))
+    (subst (λ o. IsBroken (rule_of_kind (behind set begun) (cut text).1 o)) (sym e)
+    (in_place (may_stand (behind set begun) kind) (rule_of_words (length set.types) (cut text).1 (places_of kind (cut text).1)) (λ yes. rest_fault (length set.types) set begun kind (cut text).1 may unread)))

@@ -10,33 +10,47 @@ use Rattle.layout_file.specs.declared.kinds.LineKind.{LineKind}
 use Rattle.layout_file.specs.declared.kinds.LineKind.TheVariants as firsts
 use Rattle.layout_file.specs.declared.fault.Front.{Front as Place}
 use Rattle.layout_file.specs.declared.fault.Front.TheVariants as places
+use Rattle.layout_file.specs.declared.kinds.NumberedOp.{NumberedOp}
+use Rattle.layout_file.specs.declared.kinds.NumberedOp.TheVariants as numbered
+use Rattle.layout_file.specs.declared.kinds.PlaceKind.{PlaceKind}
+use Rattle.layout_file.specs.declared.kinds.PlaceKind.TheVariants as kinds_of_place
+use Rattle.layout_file.specs.declared.open_entry.OpenEntry.{OpenEntry}
 use Rattle.layout_file.specs.declared.slot.Slot.{Slot}
 use Rattle.layout_file.specs.declared.slot.Slot.TheVariants as slots
-use Rattle.layout_file.specs.Kinds.{line_kind_of, type_kind_of, selector_kind_of, primitive_of, pointer_of}
+use Rattle.std.specs.Borrow.{Bor}
+use Rattle.snapshot_file.specs.Registers.{reg_of}
+use Rattle.readers.specs.Hex.{hex_of}
+use Rattle.layout_file.specs.Kinds.{line_kind_of, type_kind_of, selector_kind_of, primitive_of, pointer_of, entry_kind_of, piece_kind_of, numbered_of, plain_of}
 use Rattle.layout_file.specs.Spellings.{number_of, address_of, word_of, name_of, begins_with}
-use Rattle.layout_file.specs.Forms.{Left, cut}
-use Rattle.layout_file.specs.Lines.{param_form, field_form, case_form, tag_form, static_form, sized_form, array_form, thin_form, fat_form, dyn_form, clike_form, exact_form, span_form}
+use Rattle.layout_file.specs.PlaceSpellings.{frame_of, signed_of, digits_of, cut_at, zone_of, numbered_op}
+use Rattle.layout_file.specs.Forms.{Left, cut, words, operations, operations_of}
+use Rattle.layout_file.specs.Lines.{func_form, scope_form, reg_form, mem_form, fixed_form, value_form, count_form, param_form, field_form, case_form, tag_form, static_form, sized_form, array_form, thin_form, fat_form, dyn_form, clike_form, exact_form, span_form}
 use Rattle.layout_file.specs.Sets.{may_follow}
 
--- where a line stands: first, second, or behind the text of a set
+-- where a line stands: first, second, or behind the text of a set and of the entry that stands open behind it
 pub data Front : Type 0 where
   first : Front
   second : Front
-  behind : Set → Front
+  behind : Set → Option OpenEntry → Front
+
+-- the entry that is lent, if there is one
+abbrev pub opened : Option (Bor OpenEntry) → Option OpenEntry
+opened None = None
+opened (Some o) = Some o.now
 
 abbrev pub front_of : Place → Front
 front_of places.First = first
 front_of places.Second = second
-front_of (places.Behind set) = behind set.now
+front_of (places.Behind set begun) = behind set.now (opened begun)
 
 abbrev pub may_stand : Front → LineKind → Bool
 may_stand first firsts.Version = true
 may_stand second firsts.Target = true
-may_stand (behind set) kind = may_follow set kind
+may_stand (behind set begun) kind = may_follow set begun kind
 may_stand front kind = false
 
 abbrev pub next_number : Front → ℕ
-next_number (behind set) = length set.types
+next_number (behind set begun) = length set.types
 next_number front = 0
 
 -- the rule, where there is no such item
@@ -48,6 +62,41 @@ unless rule (Some a) = None
 abbrev pub not_next : ℕ → Option ℕ → Option ℕ
 not_next next None = Some 4
 not_next next (Some n) = if n == next then None else Some 5
+
+-- the lower of two rules
+abbrev pub lower : Option ℕ → Option ℕ → Option ℕ
+lower None o = o
+lower (Some a) None = Some a
+lower (Some a) (Some b) = Some (min a b)
+
+-- the lowest rule that one of the words breaks
+abbrev pub lowest_of : (List ℕ → Option ℕ) → List (List ℕ) → Option ℕ
+lowest_of rule [] = None
+lowest_of rule (word ∷ words) = lower (rule word) (lowest_of rule words)
+
+-- the rule that an operation breaks: the sum of a register and a number, behind its first colon
+abbrev pub broken_sum : List ℕ × Option (List ℕ) → Option ℕ
+broken_sum (name, None) = Some 7
+broken_sum (name, Some number) = lower (unless 7 (reg_of name)) (unless 4 (signed_of 63 number))
+
+abbrev pub broken_number : List ℕ → Option NumberedOp → Option ℕ
+broken_number text None = Some 7
+broken_number text (Some numbered.Reg) = broken_sum (cut_at 58 text)
+broken_number text (Some kind) = unless 4 (numbered_op kind text)
+
+abbrev pub broken_op_by : List ℕ × Option (List ℕ) → Option ℕ
+broken_op_by (word, None) = unless 7 (plain_of word)
+broken_op_by (word, Some text) = broken_number text (numbered_of word)
+
+abbrev pub broken_op : List ℕ → Option ℕ
+broken_op text = broken_op_by (cut_at 58 text)
+
+abbrev pub broken_zone : List ℕ → Option ℕ
+broken_zone text = unless 4 (zone_of text)
+
+-- the lowest rule that operations break: each alone, and all together
+abbrev pub broken_operations : List ℕ → Option ℕ
+broken_operations line = lower (lowest_of broken_op (words line)) (unless 7 (operations_of (Some line)))
 
 -- the rule that a word breaks at such a place, if it breaks one; no number has more than 128 bits
 abbrev pub broken : ℕ → Slot → List ℕ → Option ℕ
@@ -61,27 +110,39 @@ broken next slots.Primitive text = unless 7 (primitive_of text)
 broken next slots.Kind text = None
 broken next slots.Word text = unless 6 (word_of text)
 broken next slots.Name text = unless 6 (name_of text)
+broken next slots.Frame text = unless 7 (frame_of text)
+broken next slots.Register text = unless 7 (reg_of text)
+broken next slots.Signed text = unless 4 (signed_of 31 text)
+broken next slots.Hex text = unless 4 (hex_of text)
+broken next slots.Digits text = unless 7 (digits_of text)
+broken next slots.Zones text = lowest_of broken_zone (words text)
+broken next slots.Operations text = broken_operations text
 
--- the lower of two rules
-abbrev pub lower : Option ℕ → Option ℕ → Option ℕ
-lower None o = o
-lower (Some a) None = Some a
-lower (Some a) (Some b) = Some (min a b)
+-- all that is left of the line is at such a place
+abbrev pub is_rest : Slot → Bool
+is_rest slots.Name = true
+is_rest slots.Zones = true
+is_rest slots.Operations = true
+is_rest slot = false
 
--- the lowest rule that words break at their places; a name is all that is left
+-- there may be nothing at such a place
+abbrev pub is_optional : Slot → Bool
+is_optional slots.Zones = true
+is_optional slot = false
+
+-- the lowest rule that words break at their places
 abbrev pub lowest_broken : ℕ → List Slot → Left → Option ℕ
 lowest_broken next [] left = None
-lowest_broken next (slots.Name ∷ more) (Some line) = broken next slots.Name line
-lowest_broken next (slot ∷ more) (Some line) = lower (broken next slot (cut line).0) (lowest_broken next more (cut line).1)
 lowest_broken next (slot ∷ more) None = None
+lowest_broken next (slot ∷ more) (Some line) =
+    if is_rest slot then broken next slot line else lower (broken next slot (cut line).0) (lowest_broken next more (cut line).1)
 
 -- whether there are as many words as places
 abbrev pub fits : List Slot → Left → Bool
 fits [] None = true
 fits [] (Some line) = false
-fits (slot ∷ more) None = false
-fits (slots.Name ∷ more) (Some line) = true
-fits (slot ∷ more) (Some line) = fits more (cut line).1
+fits (slot ∷ more) None = is_optional slot
+fits (slot ∷ more) (Some line) = if is_rest slot then true else fits more (cut line).1
 
 abbrev pub type_slots : TypeKind → List Slot
 type_slots kinds.Struct = sized_form.slots
@@ -100,6 +161,15 @@ selector_slots selectors.Exact = exact_form.slots
 selector_slots selectors.Span = span_form.slots
 selector_slots selectors.Only = []
 
+abbrev pub place_slots : PlaceKind → List Slot
+place_slots kinds_of_place.Reg = reg_form.slots
+place_slots kinds_of_place.Mem = mem_form.slots
+place_slots kinds_of_place.Fixed = fixed_form.slots
+place_slots kinds_of_place.Value = value_form.slots
+place_slots kinds_of_place.Expr = operations.slots
+place_slots kinds_of_place.Pieces = count_form.slots
+place_slots kinds_of_place.Nowhere = []
+
 abbrev pub first_word : Left → Option (List ℕ)
 first_word None = None
 first_word (Some line) = Some (cut line).0
@@ -108,6 +178,11 @@ first_word (Some line) = Some (cut line).0
 abbrev pub second_word : Left → Option (List ℕ)
 second_word None = None
 second_word (Some line) = first_word (cut line).1
+
+-- the third of them
+abbrev pub third_word : Left → Option (List ℕ)
+third_word None = None
+third_word (Some line) = second_word (cut line).1
 
 -- what must stand behind the first word, where the kind of the line is known: rule 2 is broken where the kind is none
 abbrev pub places_if : {K : Type 0} → (K → List Slot) → Option K → Result (List Slot) ℕ
@@ -129,6 +204,12 @@ places_of firsts.Case left = Ok case_form.slots
 places_of firsts.Tag left = Ok tag_form.slots
 places_of firsts.Variant left = places_by (λ kind. slots.Word ∷ slots.Kind ∷ selector_slots kind) selector_kind_of (second_word left)
 places_of firsts.Static left = Ok static_form.slots
+places_of firsts.Func left = Ok func_form.slots
+places_of firsts.Scope left = Ok scope_form.slots
+places_of firsts.Var left = Ok param_form.slots
+places_of firsts.Arg left = Ok param_form.slots
+places_of firsts.At left = places_by (λ kind. slots.Hex ∷ slots.Hex ∷ slots.Kind ∷ place_slots kind) entry_kind_of (third_word left)
+places_of firsts.Piece left = places_by (λ kind. slots.Number 32 ∷ slots.Kind ∷ place_slots kind) piece_kind_of (second_word left)
 
 -- the lowest rule above 2 that is broken, where such words may stand
 abbrev pub rule_of_words : ℕ → Left → Result (List Slot) ℕ → Option ℕ

@@ -1,7 +1,12 @@
 -- Forms of lines: items of which each but the last is one word, parted by one space.
-use Rattle.std.specs.Prelude.{ℕ, ◌==◌, if◌then◌else◌, List, [], ◌∷◌, ◌++◌, Option, Some, None}
+use Rattle.std.specs.Prelude.{ℕ, nat_lt, nat_le, ◌==◌, ◌&&◌, if◌then◌else◌, Bool, length, List, [], ◌∷◌, ◌++◌, Option, Some, None}
 use Rattle.layout_file.specs.declared.slot.Slot.{Slot}
+use Rattle.layout_file.specs.declared.slot.Slot.TheVariants as slots
+use Rattle.std.specs.List.{All}
+use Rattle.expr_eval.specs.declared.operation.Op.{Op}
+use Rattle.expr_eval.specs.Invariant.{each_sound, value_is_last, fits, AreOps}
 use Rattle.layout_file.specs.Spellings.{Spelling, ◌>>=◌}
+use Rattle.layout_file.specs.PlaceSpellings.{operation, IsOp}
 
 -- what is left of a line behind a word: nothing, or what follows the space
 abbrev pub Left : Type 0
@@ -69,3 +74,46 @@ S · F = record {
 -- the rest of the line
 abbrev pub rest : {A : Type 0} → Spelling A → Form A
 rest S = record { text = λ a. Some (S.text a); of = take_rest S; Is = S.Is; slots = S.slot ∷ [] }
+
+-- items with a space between each and the next
+abbrev pub words_text : {A : Type 0} → Spelling A → List A → Left
+words_text S [] = None
+words_text S (a ∷ items) = Some (S.text a ++ behind (words_text S items))
+
+-- a word further on
+abbrev pub cons_first : ℕ → List (List ℕ) → List (List ℕ)
+cons_first c [] = (c ∷ []) ∷ []
+cons_first c (word ∷ words) = (c ∷ word) ∷ words
+
+-- the words of a line, which is cut at each space
+unfoldable pub words : List ℕ → List (List ℕ)
+words [] = [] ∷ []
+words (c ∷ line) = if c == 32 then [] ∷ words line else cons_first c (words line)
+
+abbrev pub left_words : Left → List (List ℕ)
+left_words None = []
+left_words (Some line) = words line
+
+-- the items that the words are, one by one
+abbrev pub each_of : {A : Type 0} → Spelling A → List (List ℕ) → Option (List A)
+each_of S [] = Some []
+each_of S (word ∷ more) = S.of word >>= λ a. each_of S more >>= λ items. Some (a ∷ items)
+
+-- any number of words, the rest of the line
+abbrev pub many : {A : Type 0} → Spelling A → Form (List A)
+many S = record { text = words_text S; of = λ left. each_of S (left_words left); Is = All S.Is; slots = S.slot ∷ [] }
+
+-- whether the operations are those of an expression
+abbrev pub are_ops : List Op → Bool
+are_ops ops = nat_lt 0 (length ops) && (nat_le (length ops) 64 && (each_sound ops && (value_is_last ops && fits 0 ops)))
+
+-- the operations, where they are those of an expression
+abbrev pub operations_of : Left → Option (List Op)
+operations_of left = each_of operation (left_words left) >>= λ ops. if are_ops ops then Some ops else None
+
+abbrev pub AreOperations : List Op → Type 0
+AreOperations ops = All IsOp ops × AreOps ops
+
+-- one or more operations, which make an expression
+abbrev pub operations : Form (List Op)
+operations = record { text = words_text operation; of = operations_of; Is = AreOperations; slots = slots.Operations ∷ [] }

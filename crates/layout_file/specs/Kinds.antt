@@ -5,6 +5,12 @@ use Rattle.type_names.specs.declared.name.PtrKind.{PtrKind}
 use Rattle.type_names.specs.declared.name.PtrKind.TheVariants as pointers
 use Rattle.layout_model.specs.declared.primitive.Primitive.{Primitive}
 use Rattle.layout_model.specs.declared.primitive.Primitive.TheVariants as prims
+use Rattle.expr_eval.specs.declared.operation.Op.{Op}
+use Rattle.expr_eval.specs.declared.operation.Op.TheVariants as ops
+use Rattle.layout_file.specs.declared.kinds.NumberedOp.{NumberedOp}
+use Rattle.layout_file.specs.declared.kinds.NumberedOp.TheVariants as numbered
+use Rattle.layout_file.specs.declared.kinds.PlaceKind.{PlaceKind}
+use Rattle.layout_file.specs.declared.kinds.PlaceKind.TheVariants as places
 use Rattle.layout_file.specs.declared.kinds.LineKind.{LineKind}
 use Rattle.layout_file.specs.declared.kinds.LineKind.TheVariants as firsts
 use Rattle.layout_file.specs.declared.kinds.TypeKind.{TypeKind}
@@ -28,9 +34,15 @@ line_kind_word firsts.Case = codes "case"
 line_kind_word firsts.Tag = codes "tag"
 line_kind_word firsts.Variant = codes "variant"
 line_kind_word firsts.Static = codes "static"
+line_kind_word firsts.Func = codes "fn"
+line_kind_word firsts.Scope = codes "scope"
+line_kind_word firsts.Var = codes "var"
+line_kind_word firsts.Arg = codes "arg"
+line_kind_word firsts.At = codes "at"
+line_kind_word firsts.Piece = codes "piece"
 
 abbrev pub all_line_kinds : List LineKind
-all_line_kinds = firsts.Version ∷ firsts.Target ∷ firsts.Type ∷ firsts.Param ∷ firsts.Field ∷ firsts.Case ∷ firsts.Tag ∷ firsts.Variant ∷ firsts.Static ∷ []
+all_line_kinds = firsts.Version ∷ firsts.Target ∷ firsts.Type ∷ firsts.Param ∷ firsts.Field ∷ firsts.Case ∷ firsts.Tag ∷ firsts.Variant ∷ firsts.Static ∷ firsts.Func ∷ firsts.Scope ∷ firsts.Var ∷ firsts.Arg ∷ firsts.At ∷ firsts.Piece ∷ []
 
 abbrev pub line_kind_of : List ℕ → Option LineKind
 line_kind_of word = named_in line_kind_word all_line_kinds word
@@ -104,3 +116,70 @@ all_primitives = prims.Unit ∷ prims.Bool ∷ prims.Char ∷ prims.I8 ∷ prims
 
 abbrev pub primitive_of : List ℕ → Option Primitive
 primitive_of word = named_in primitive_word all_primitives word
+
+-- the word that says what a place is
+abbrev pub place_word : PlaceKind → List ℕ
+place_word places.Reg = codes "reg"
+place_word places.Mem = codes "mem"
+place_word places.Fixed = codes "fixed"
+place_word places.Value = codes "value"
+place_word places.Expr = codes "expr"
+place_word places.Pieces = codes "pieces"
+place_word places.Nowhere = codes "none"
+
+-- what an entry may be
+abbrev pub all_entry_kinds : List PlaceKind
+all_entry_kinds = places.Reg ∷ places.Mem ∷ places.Fixed ∷ places.Value ∷ places.Expr ∷ places.Pieces ∷ []
+
+abbrev pub entry_kind_of : List ℕ → Option PlaceKind
+entry_kind_of word = named_in place_word all_entry_kinds word
+
+-- what a piece may be
+abbrev pub all_piece_kinds : List PlaceKind
+all_piece_kinds = places.Reg ∷ places.Mem ∷ places.Fixed ∷ places.Value ∷ places.Expr ∷ places.Nowhere ∷ []
+
+abbrev pub piece_kind_of : List ℕ → Option PlaceKind
+piece_kind_of word = named_in place_word all_piece_kinds word
+
+-- what stands before the colon of an operation with a number
+abbrev pub numbered_word : NumberedOp → List ℕ
+numbered_word numbered.Const = codes "const"
+numbered_word numbered.Deref = codes "deref"
+numbered_word numbered.Pick = codes "pick"
+numbered_word numbered.Plus = codes "plus"
+numbered_word numbered.Reg = codes "reg"
+
+abbrev pub all_numbered_ops : List NumberedOp
+all_numbered_ops = numbered.Const ∷ numbered.Deref ∷ numbered.Pick ∷ numbered.Plus ∷ numbered.Reg ∷ []
+
+abbrev pub numbered_of : List ℕ → Option NumberedOp
+numbered_of word = named_in numbered_word all_numbered_ops word
+
+-- the word of an operation without a number
+abbrev pub plain_word : Op → List ℕ
+plain_word ops.Dup = codes "dup"
+plain_word ops.Drop = codes "drop"
+plain_word ops.Over = codes "over"
+plain_word ops.Swap = codes "swap"
+plain_word ops.Rot = codes "rot"
+plain_word ops.And = codes "and"
+plain_word ops.Minus = codes "minus"
+plain_word ops.Mul = codes "mul"
+plain_word ops.Neg = codes "neg"
+plain_word ops.Not = codes "not"
+plain_word ops.Or = codes "or"
+plain_word ops.Plus = codes "plus"
+plain_word ops.Shl = codes "shl"
+plain_word ops.Shr = codes "shr"
+plain_word ops.Shra = codes "shra"
+plain_word ops.Xor = codes "xor"
+plain_word ops.Cfa = codes "cfa"
+plain_word ops.Entry = codes "entry"
+plain_word ops.StackValue = codes "value"
+plain_word _ = []
+
+abbrev pub all_plain_ops : List Op
+all_plain_ops = ops.Dup ∷ ops.Drop ∷ ops.Over ∷ ops.Swap ∷ ops.Rot ∷ ops.And ∷ ops.Minus ∷ ops.Mul ∷ ops.Neg ∷ ops.Not ∷ ops.Or ∷ ops.Plus ∷ ops.Shl ∷ ops.Shr ∷ ops.Shra ∷ ops.Xor ∷ ops.Cfa ∷ ops.Entry ∷ ops.StackValue ∷ []
+
+abbrev pub plain_of : List ℕ → Option Op
+plain_of word = named_in plain_word all_plain_ops word

@@ -1,5 +1,6 @@
 pub mod Kinds
 pub mod Spellings
+pub mod PlaceSpellings
 pub mod Forms
 pub mod Lines
 pub mod ReadLines

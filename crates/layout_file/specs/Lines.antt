@@ -1,5 +1,5 @@
--- The lines of types and statics, by their forms.
-use Rattle.std.specs.Prelude.{◌≡◌, ℕ, List, [], ◌++◌, Option, Some, None}
+-- The lines of types, statics and functions, by their forms.
+use Rattle.std.specs.Prelude.{◌≡◌, ℕ, ℤ, ◌<◌, ◌^◌, if◌then◌else◌, List, [], ◌++◌, Option, Some, None, IfSome}
 use Rattle.std.specs.Fmt.{decimal}
 use Rattle.type_names.specs.declared.name.Name.{Name}
 use Rattle.type_names.specs.declared.name.PtrKind.{PtrKind}
@@ -9,6 +9,12 @@ use Rattle.layout_model.specs.declared.set.TypeDef.{TypeDef}
 use Rattle.layout_model.specs.declared.set.TypeDef.TheVariants.{Struct, Array, Thin, Slice, Str, Dyn, FnPtr, CLike, Enum, Bytes}
 use Rattle.layout_model.specs.declared.set.Selector.{Selector}
 use Rattle.layout_model.specs.declared.set.Selector.TheVariants.{Exact, Span, Only}
+use Rattle.snapshot_file.specs.declared.registers.Reg.{Reg}
+use Rattle.layout_model.specs.declared.func.Place.{Place}
+use Rattle.layout_model.specs.declared.func.Place.TheVariants as place
+use Rattle.layout_model.specs.declared.func.Zone.{Zone}
+use Rattle.layout_file.specs.declared.kinds.PlaceKind.{PlaceKind}
+use Rattle.layout_file.specs.declared.kinds.PlaceKind.TheVariants as places
 use Rattle.layout_file.specs.declared.kinds.TypeKind.{TypeKind}
 use Rattle.layout_file.specs.declared.kinds.TypeKind.TheVariants as kinds
 use Rattle.layout_file.specs.declared.kinds.SelectorKind.{SelectorKind}
@@ -17,9 +23,10 @@ use Rattle.layout_file.specs.declared.line.Line.{Line}
 use Rattle.layout_file.specs.declared.line.Line.TheVariants as lines
 use Rattle.layout_file.specs.declared.kinds.LineKind.{LineKind}
 use Rattle.layout_file.specs.declared.kinds.LineKind.TheVariants as firsts
-use Rattle.layout_file.specs.Kinds.{line_kind_word, type_kind_word, selector_word}
+use Rattle.layout_file.specs.Kinds.{line_kind_word, type_kind_word, selector_word, place_word}
 use Rattle.layout_file.specs.Spellings.{number, address, reference, pointer, primitive, word, name}
-use Rattle.layout_file.specs.Forms.{Left, Form, behind, nothing, ◌·◌, rest}
+use Rattle.layout_file.specs.PlaceSpellings.{register, frame, hex, signed, digits, zone}
+use Rattle.layout_file.specs.Forms.{Left, Form, behind, nothing, ◌·◌, rest, many, operations}
 use Rattle.type_names.specs.Words.{IsWord}
 
 -- WORD T
@@ -74,6 +81,34 @@ exact_form = number 128 · nothing
 abbrev pub span_form : Form (ℕ × (ℕ × Unit {0}))
 span_form = number 128 · number 128 · nothing
 
+-- REG NAME, none NAME
+abbrev pub func_form : Form (Option Reg × Name)
+func_form = frame · rest name
+
+-- DEPTH H..H ..
+abbrev pub scope_form : Form (ℕ × List Zone)
+scope_form = number 32 · many zone
+
+-- REG
+abbrev pub reg_form : Form (Reg × Unit {0})
+reg_form = register · nothing
+
+-- REG N
+abbrev pub mem_form : Form (Reg × (ℤ × Unit {0}))
+mem_form = register · signed · nothing
+
+-- H
+abbrev pub fixed_form : Form (ℕ × Unit {0})
+fixed_form = hex · nothing
+
+-- HEX
+abbrev pub value_form : Form (List ℕ × Unit {0})
+value_form = digits · nothing
+
+-- N
+abbrev pub count_form : Form (ℕ × Unit {0})
+count_form = number 32 · nothing
+
 abbrev pub kind_of_type : TypeDef → TypeKind
 kind_of_type (Struct name size align params fields) = kinds.Struct
 kind_of_type (Array elem count) = kinds.Array
@@ -110,6 +145,36 @@ selector_rest (Exact n) = exact_form.text (n, tt)
 selector_rest (Span lo hi) = span_form.text (lo, (hi, tt))
 selector_rest Only = None
 
+abbrev pub kind_of_place : Place → PlaceKind
+kind_of_place (place.Reg reg) = places.Reg
+kind_of_place (place.Mem reg n) = places.Mem
+kind_of_place (place.Fixed at) = places.Fixed
+kind_of_place (place.Value text) = places.Value
+kind_of_place (place.Expr ops) = places.Expr
+
+-- a place behind the word of its kind
+abbrev pub place_rest : Place → Left
+place_rest (place.Reg reg) = reg_form.text (reg, tt)
+place_rest (place.Mem reg n) = mem_form.text (reg, (n, tt))
+place_rest (place.Fixed at) = fixed_form.text (at, tt)
+place_rest (place.Value text) = value_form.text (text, tt)
+place_rest (place.Expr ops) = operations.text ops
+
+-- the word of the kind, and what follows
+abbrev pub kind_text : PlaceKind → Left → List ℕ
+kind_text kind left = place_word kind ++ behind left
+
+abbrev pub place_text : Place → List ℕ
+place_text p = kind_text (kind_of_place p) (place_rest p)
+
+abbrev pub place_text_if : Option Place → List ℕ
+place_text_if None = place_word places.Nowhere
+place_text_if (Some p) = place_text p
+
+-- an entry's line behind its first word: H H, and what it is
+abbrev pub entry_rest : ℕ → ℕ → List ℕ → Left
+entry_rest lo hi text = Some (hex.text lo ++ behind (Some (hex.text hi ++ behind (Some text))))
+
 -- a line behind its first word; `next` is the number of the next type
 abbrev pub line_rest : ℕ → Line → Left
 line_rest next (lines.Type def) = Some (decimal next ++ behind (Some (type_kind_word (kind_of_type def) ++ behind (type_rest def))))
@@ -119,6 +184,12 @@ line_rest next (lines.Case c) = case_form.text (c.name, (c.number, tt))
 line_rest next (lines.Tag t) = tag_form.text (t.off, (t.prim, tt))
 line_rest next (lines.Variant w sel) = Some (w ++ behind (Some (selector_word (kind_of_selector sel) ++ behind (selector_rest sel))))
 line_rest next (lines.Static s) = static_form.text (s.addr, (s.ty, s.name))
+line_rest next (lines.Func f) = func_form.text (f.frame, f.name)
+line_rest next (lines.Scope s) = scope_form.text (s.depth, s.zones)
+line_rest next (lines.Var v) = param_form.text (v.name, (v.ty, tt))
+line_rest next (lines.Whole lo hi p) = entry_rest lo hi (place_text p)
+line_rest next (lines.Pieces lo hi count) = entry_rest lo hi (kind_text places.Pieces (count_form.text (count, tt)))
+line_rest next (lines.Piece p) = Some (decimal p.size ++ behind (Some (place_text_if p.place)))
 
 abbrev pub kind_of_line : Line → LineKind
 kind_of_line (lines.Type def) = firsts.Type
@@ -128,6 +199,12 @@ kind_of_line (lines.Case c) = firsts.Case
 kind_of_line (lines.Tag t) = firsts.Tag
 kind_of_line (lines.Variant w sel) = firsts.Variant
 kind_of_line (lines.Static s) = firsts.Static
+kind_of_line (lines.Func f) = firsts.Func
+kind_of_line (lines.Scope s) = firsts.Scope
+kind_of_line (lines.Var v) = if v.param then firsts.Arg else firsts.Var
+kind_of_line (lines.Whole lo hi p) = firsts.At
+kind_of_line (lines.Pieces lo hi count) = firsts.At
+kind_of_line (lines.Piece p) = firsts.Piece
 
 -- a line without its end
 abbrev pub line_text : ℕ → Line → List ℕ
@@ -151,6 +228,13 @@ IsSelector (Exact n) = exact_form.Is (n, tt)
 IsSelector (Span lo hi) = span_form.Is (lo, (hi, tt))
 IsSelector Only = Unit {0}
 
+abbrev pub IsPlaceLine : Place → Type 0
+IsPlaceLine (place.Reg reg) = reg_form.Is (reg, tt)
+IsPlaceLine (place.Mem reg n) = mem_form.Is (reg, (n, tt))
+IsPlaceLine (place.Fixed at) = fixed_form.Is (at, tt)
+IsPlaceLine (place.Value text) = value_form.Is (text, tt)
+IsPlaceLine (place.Expr ops) = operations.Is ops
+
 abbrev pub IsLine : Line → Type 0
 IsLine (lines.Type def) = IsTypeLine def
 IsLine (lines.Param p) = param_form.Is (p.name, (p.ty, tt))
@@ -159,3 +243,9 @@ IsLine (lines.Case c) = case_form.Is (c.name, (c.number, tt))
 IsLine (lines.Tag t) = tag_form.Is (t.off, (t.prim, tt))
 IsLine (lines.Variant w sel) = IsWord w × IsSelector sel
 IsLine (lines.Static s) = static_form.Is (s.addr, (s.ty, s.name))
+IsLine (lines.Func f) = func_form.Is (f.frame, f.name) × (f.scopes ≡ [])
+IsLine (lines.Scope s) = scope_form.Is (s.depth, s.zones) × (s.vars ≡ [])
+IsLine (lines.Var v) = param_form.Is (v.name, (v.ty, tt)) × (v.entries ≡ [])
+IsLine (lines.Whole lo hi p) = (hex.Is lo × hex.Is hi) × IsPlaceLine p
+IsLine (lines.Pieces lo hi count) = (hex.Is lo × hex.Is hi) × count_form.Is (count, tt)
+IsLine (lines.Piece p) = (p.size < 2 ^ 32) × IfSome p.place IsPlaceLine

@@ -1,298 +1,224 @@
 //! Sets with one line more.
-ghost use Rattle.std.specs.Prelude.{◌≡◌, IfOk};
-ghost use Rattle.layout_file.specs.declared.line.Line.TheVariants as lines;
-ghost use Rattle.layout_file.specs.Sets.{may_follow, last_may_go_on, may_go_on, last_of};
-ghost use Rattle.layout_file.specs.Additions.{added, with_last, with_part, with_field, with_variant};
+ghost use Rattle.std.specs.Prelude.{◌≡◌, ◌++◌, ◌∷◌, [], IfOk};
+ghost use Rattle.layout_file.specs.Additions.{added, settled, piece_added, entry_added, with_last, with_part, with_scope, with_var_in_func};
 
-use crate::kinds::LineKind;
+use crate::func_addition::{with_last_entry, with_last_scope, with_last_var};
 use crate::line::Line;
-use layout_model::{Case, Field, Param, Selector, Set, Tag, TypeDef, Variant};
+use crate::open_entry::OpenEntry;
+use crate::type_addition::with_last;
+use layout_model::{Entry, Func, Loc, Piece, Scope, Set, Static, TypeDef, Var};
 use rv_io::{List, Memory};
-use type_names::Word;
+use std::alloc::Global;
 
-/// Whether a line of such a kind may follow the text of the set.
-pub(crate) fn may_follow(set: &Set, kind: LineKind) -> bool
-    ensures { result ≡ may_follow set.now kind }
+/// The set and the entry that stands open with the line.
+pub(crate) fn added(
+    alloc: Global,
+    set: Set,
+    begun: Option<OpenEntry>,
+    line: Line,
+) -> Result<(Set, Option<OpenEntry>), Memory>
+    ensures { IfOk result (λ d. d ≡ added set begun line) }
 {
-    match kind {
-        LineKind::Version | LineKind::Target => false,
-        LineKind::Static => true,
-        LineKind::Type => set.statics.as_slice().is_empty(),
-        LineKind::Param | LineKind::Field | LineKind::Case | LineKind::Tag | LineKind::Variant => {
-            set.statics.as_slice().is_empty() && last_may_go_on(set.types.as_slice(), kind)
+    match line {
+        Line::Type(def) => Ok((with_type(set, def)?, begun)),
+        Line::Static(item) => Ok((with_static(set, item)?, begun)),
+        Line::Func(func) => Ok((with_func(set, func)?, begun)),
+        Line::Scope(scope) => Ok((with_scope(set, scope)?, begun)),
+        Line::Var(var) => Ok((with_var(set, var)?, begun)),
+        Line::Whole(lo, hi, place) => {
+            let loc = Loc::Whole(place);
+            Ok((entry_added(set, Entry { lo, hi, loc })?, begun))
         }
+        Line::Pieces(lo, hi, count) => {
+            let pieces = List::new(alloc);
+            settled(
+                set,
+                OpenEntry {
+                    lo,
+                    hi,
+                    count,
+                    pieces,
+                },
+            )
+        }
+        Line::Piece(piece) => piece_added(set, begun, piece),
+        part => Ok((with_part(set, part)?, begun)),
     }
 }
 
-fn last_may_go_on(types: &[TypeDef], kind: LineKind) -> bool
-    ensures { result ≡ last_may_go_on (last_of types.now) kind }
-{
-    match types.last() {
-        Some(def) => may_go_on(def, kind),
-        None => false,
-    }
-}
-
-/// Whether a part of such a kind may be the next part of the type.
-fn may_go_on(def: &TypeDef, kind: LineKind) -> bool
-    ensures { result ≡ may_go_on def.now kind }
-{
-    match def {
-        TypeDef::Struct { fields, .. } => match kind {
-            LineKind::Param => fields.as_slice().is_empty(),
-            LineKind::Field => true,
-            _ => false,
-        },
-        TypeDef::CLike { .. } => matches!(kind, LineKind::Case),
-        TypeDef::Enum { tag, variants, .. } => match kind {
-            LineKind::Param | LineKind::Tag => tag.is_none() && variants.as_slice().is_empty(),
-            LineKind::Variant => true,
-            LineKind::Field => !variants.as_slice().is_empty(),
-            _ => false,
-        },
-        _ => false,
-    }
-}
-
-/// The set with the line.
-pub(crate) fn added(set: Set, line: Line) -> Result<Set, Memory>
-    ensures { IfOk result (λ s. s ≡ added set line) }
+fn with_type(set: Set, def: TypeDef) -> Result<Set, Memory>
+    ensures { IfOk result (λ s. s ≡ record set { types = set.types ++ def ∷ [] }) }
 {
     let Set {
         target,
         mut types,
-        mut statics,
+        statics,
+        funcs,
     } = set;
-    match line {
-        Line::Type(def) => types.push(def)?,
-        Line::Static(item) => statics.push(item)?,
-        part => types = with_last(types, part)?,
-    }
+    types.push(def)?;
     Ok(Set {
         target,
         types,
         statics,
+        funcs,
     })
 }
 
-/// The types, the last with the part.
-fn with_last(types: List<TypeDef>, part: Line) -> Result<List<TypeDef>, Memory>
-    ensures { IfOk result (λ ts. ts ≡ with_last (with_part part) types) }
+/// The set, its last type with the part.
+fn with_part(set: Set, part: Line) -> Result<Set, Memory>
+    ensures { IfOk result (λ s. s ≡ record set { types = with_last (with_part part) set.types }) }
 {
-    let mut types = types.into_vec();
-    match types.pop() {
-        None => Ok(List::from_vec(types)),
-        Some(last) => {
-            let last = with_part(last, part)?;
-            types.push(last)?;
-            Ok(List::from_vec(types))
-        }
-    }
+    let Set {
+        target,
+        types,
+        statics,
+        funcs,
+    } = set;
+    let types = with_last(types, part)?;
+    Ok(Set {
+        target,
+        types,
+        statics,
+        funcs,
+    })
 }
 
-/// The type with the part.
-fn with_part(def: TypeDef, part: Line) -> Result<TypeDef, Memory>
-    ensures { IfOk result (λ d. d ≡ with_part part def) }
+fn with_static(set: Set, item: Static) -> Result<Set, Memory>
+    ensures { IfOk result (λ s. s ≡ record set { statics = set.statics ++ item ∷ [] }) }
 {
-    match part {
-        Line::Param(param) => with_param(def, param),
-        Line::Field(field) => with_field_of_type(def, field),
-        Line::Case(case) => with_case(def, case),
-        Line::Tag(tag) => Ok(with_tag(def, tag)),
-        Line::Variant(name, sel) => with_variant_of_type(def, name, sel),
-        Line::Type(other) => {
-            drop(other);
-            Ok(def)
-        }
-        Line::Static(item) => {
-            drop(item);
-            Ok(def)
-        }
-    }
+    let Set {
+        target,
+        types,
+        mut statics,
+        funcs,
+    } = set;
+    statics.push(item)?;
+    Ok(Set {
+        target,
+        types,
+        statics,
+        funcs,
+    })
 }
 
-fn with_param(def: TypeDef, param: Param) -> Result<TypeDef, Memory>
-    ensures { IfOk result (λ d. d ≡ with_part (lines.Param param) def) }
+fn with_func(set: Set, func: Func) -> Result<Set, Memory>
+    ensures { IfOk result (λ s. s ≡ record set { funcs = set.funcs ++ func ∷ [] }) }
 {
-    match def {
-        TypeDef::Struct {
-            name,
-            size,
-            align,
-            mut params,
-            fields,
-        } => {
-            params.push(param)?;
-            Ok(TypeDef::Struct {
-                name,
-                size,
-                align,
-                params,
-                fields,
-            })
-        }
-        TypeDef::Enum {
-            name,
-            size,
-            align,
-            mut params,
-            tag,
-            variants,
-        } => {
-            params.push(param)?;
-            Ok(TypeDef::Enum {
-                name,
-                size,
-                align,
-                params,
-                tag,
-                variants,
-            })
-        }
-        other => Ok(other),
-    }
+    let Set {
+        target,
+        types,
+        statics,
+        mut funcs,
+    } = set;
+    funcs.push(func)?;
+    Ok(Set {
+        target,
+        types,
+        statics,
+        funcs,
+    })
 }
 
-fn with_field_of_type(def: TypeDef, field: Field) -> Result<TypeDef, Memory>
-    ensures { IfOk result (λ d. d ≡ with_part (lines.Field field) def) }
+/// The set, its last function with the scope.
+fn with_scope(set: Set, scope: Scope) -> Result<Set, Memory>
+    ensures { IfOk result (λ s. s ≡ record set { funcs = with_last (with_scope scope) set.funcs }) }
 {
-    match def {
-        TypeDef::Struct {
-            name,
-            size,
-            align,
-            params,
-            mut fields,
-        } => {
-            fields.push(field)?;
-            Ok(TypeDef::Struct {
-                name,
-                size,
-                align,
-                params,
-                fields,
-            })
-        }
-        TypeDef::Enum {
-            name,
-            size,
-            align,
-            params,
-            tag,
-            variants,
-        } => {
-            let variants = with_last_field(variants, field)?;
-            Ok(TypeDef::Enum {
-                name,
-                size,
-                align,
-                params,
-                tag,
-                variants,
-            })
-        }
-        other => Ok(other),
-    }
+    let Set {
+        target,
+        types,
+        statics,
+        funcs,
+    } = set;
+    let funcs = with_last_scope(funcs, scope)?;
+    Ok(Set {
+        target,
+        types,
+        statics,
+        funcs,
+    })
 }
 
-fn with_case(def: TypeDef, case: Case) -> Result<TypeDef, Memory>
-    ensures { IfOk result (λ d. d ≡ with_part (lines.Case case) def) }
+/// The set, the last scope of its last function with the variable.
+fn with_var(set: Set, var: Var) -> Result<Set, Memory>
+    ensures { IfOk result (λ s. s ≡ record set { funcs = with_last (with_var_in_func var) set.funcs }) }
 {
-    match def {
-        TypeDef::CLike {
-            name,
-            tag,
-            mut cases,
-        } => {
-            cases.push(case)?;
-            Ok(TypeDef::CLike { name, tag, cases })
-        }
-        other => Ok(other),
-    }
+    let Set {
+        target,
+        types,
+        statics,
+        funcs,
+    } = set;
+    let funcs = with_last_var(funcs, var)?;
+    Ok(Set {
+        target,
+        types,
+        statics,
+        funcs,
+    })
 }
 
-fn with_tag(def: TypeDef, tag: Tag) -> TypeDef
-    ensures { result ≡ with_part (lines.Tag tag) def }
+/// The set, its last variable with the entry.
+fn entry_added(set: Set, entry: Entry) -> Result<Set, Memory>
+    ensures { IfOk result (λ s. s ≡ entry_added set entry) }
 {
-    match def {
-        TypeDef::Enum {
-            name,
-            size,
-            align,
-            params,
-            tag: _,
-            variants,
-        } => TypeDef::Enum {
-            name,
-            size,
-            align,
-            params,
-            tag: Some(tag),
-            variants,
+    let Set {
+        target,
+        types,
+        statics,
+        funcs,
+    } = set;
+    let funcs = with_last_entry(funcs, entry)?;
+    Ok(Set {
+        target,
+        types,
+        statics,
+        funcs,
+    })
+}
+
+/// The set with the entry, if no piece of it is missing, or both.
+fn settled(set: Set, begun: OpenEntry) -> Result<(Set, Option<OpenEntry>), Memory>
+    ensures { IfOk result (λ d. d ≡ settled set begun) }
+{
+    if begun.pieces.as_slice().len() != begun.count as usize {
+        return Ok((set, Some(begun)));
+    }
+    let OpenEntry {
+        lo,
+        hi,
+        count: _,
+        pieces,
+    } = begun;
+    let loc = Loc::Pieces(pieces);
+    let set = entry_added(set, Entry { lo, hi, loc })?;
+    Ok((set, None))
+}
+
+/// The set and the entry that stands open with one more piece of it.
+fn piece_added(
+    set: Set,
+    begun: Option<OpenEntry>,
+    piece: Piece,
+) -> Result<(Set, Option<OpenEntry>), Memory>
+    ensures { IfOk result (λ d. d ≡ piece_added set begun piece) }
+{
+    let Some(begun) = begun else {
+        return Ok((set, None));
+    };
+    let OpenEntry {
+        lo,
+        hi,
+        count,
+        mut pieces,
+    } = begun;
+    pieces.push(piece)?;
+    settled(
+        set,
+        OpenEntry {
+            lo,
+            hi,
+            count,
+            pieces,
         },
-        other => other,
-    }
-}
-
-fn with_variant_of_type(def: TypeDef, word: Word, sel: Selector) -> Result<TypeDef, Memory>
-    ensures { IfOk result (λ d. d ≡ with_part (lines.Variant word sel) def) }
-{
-    match def {
-        TypeDef::Enum {
-            name,
-            size,
-            align,
-            params,
-            tag,
-            variants,
-        } => {
-            let variants = with_variant(variants, word, sel)?;
-            Ok(TypeDef::Enum {
-                name,
-                size,
-                align,
-                params,
-                tag,
-                variants,
-            })
-        }
-        other => Ok(other),
-    }
-}
-
-/// The variants, and one more without fields.
-fn with_variant(variants: List<Variant>, name: Word, sel: Selector) -> Result<List<Variant>, Memory>
-    ensures { IfOk result (λ vs. vs ≡ with_variant name sel variants) }
-{
-    let mut variants = variants.into_vec();
-    let fields = List::new(*variants.allocator());
-    variants.push(Variant { name, sel, fields })?;
-    Ok(List::from_vec(variants))
-}
-
-/// The variants, the last with the field.
-fn with_last_field(variants: List<Variant>, field: Field) -> Result<List<Variant>, Memory>
-    ensures { IfOk result (λ vs. vs ≡ with_last (with_field field) variants) }
-{
-    let mut variants = variants.into_vec();
-    match variants.pop() {
-        None => Ok(List::from_vec(variants)),
-        Some(last) => {
-            let last = with_field(last, field)?;
-            variants.push(last)?;
-            Ok(List::from_vec(variants))
-        }
-    }
-}
-
-fn with_field(variant: Variant, field: Field) -> Result<Variant, Memory>
-    ensures { IfOk result (λ v. v ≡ with_field field variant) }
-{
-    let Variant {
-        name,
-        sel,
-        mut fields,
-    } = variant;
-    fields.push(field)?;
-    Ok(Variant { name, sel, fields })
+    )
 }

@@ -1,18 +1,25 @@
 //! The words of a line, taken one by one.
 ghost use Rattle.std.specs.Prelude.{◌≡◌, ◌<◌, ◌≤◌, ◌^◌, Some, None, Ok, Err, IfSome};
-ghost use Rattle.layout_file.specs.Kinds.{type_kind_of, selector_kind_of, pointer_of, primitive_of};
+ghost use Rattle.layout_file.specs.Kinds.{type_kind_of, selector_kind_of, pointer_of, primitive_of, entry_kind_of, piece_kind_of};
+ghost use Rattle.snapshot_file.specs.Registers.{reg_of};
+ghost use Rattle.readers.specs.Hex.{hex_of};
 ghost use Rattle.layout_file.specs.Spellings.{number_of, the_next, number, address, address_of, reference, reference_of, pointer, primitive, type_kind, selector_kind, word, word_of, name};
-ghost use Rattle.layout_file.specs.Forms.{cut, next_word, all_left, nothing_of, take_word, take_rest};
+ghost use Rattle.layout_file.specs.PlaceSpellings.{register, frame, frame_of, hex, signed, signed_of, digits, digits_of, entry_kind, piece_kind, zone, zone_of, operation, op_of};
+ghost use Rattle.layout_file.specs.Forms.{cut, next_word, all_left, nothing_of, take_word, take_rest, many, each_of, left_words, operations, operations_of};
 ghost use Rattle.layout_file.specs.Steps.{Took, Read, seen};
 
 use crate::chars::name_of;
 use crate::kinds::{
-    SelectorKind, TypeKind, pointer_of, primitive_of, selector_kind_of, type_kind_of,
+    PlaceKind, SelectorKind, TypeKind, pointer_of, primitive_of, selector_kind_of, type_kind_of,
 };
 use crate::numbers::{address_of, number_of, reference_of, u8_of, u32_of, u64_of, word_of};
-use layout_model::{Primitive, TypeRef};
-use readers::cut_word;
-use rv_io::Memory;
+use crate::place_words::{entry_kind_of, piece_kind_of};
+use crate::places::{digits_of, frame_of, i32_of, op_of, zone_of};
+use expr_eval::{Op, Ops};
+use layout_model::{Primitive, TypeRef, Zone};
+use readers::{cut_word, read_hex};
+use rv_io::{List, Memory, Text};
+use snapshot_file::{Reg, reg_of};
 use std::alloc::Global;
 use std::marker::Model;
 use type_names::{Name, PtrKind, Word};
@@ -191,6 +198,102 @@ impl<'a> Words<'a> {
             return Err(Stop::Unfit);
         };
         name_of(alloc, line)
+    }
+}
+
+impl<'a> Words<'a> {
+    pub(crate) fn register(&mut self) -> Result<Reg, Stop>
+        ensures { Took (take_word register self.old) result self.new }
+    {
+        let word = self.next_word()?;
+        fitting(reg_of(word))
+    }
+
+    /// A register, or `none`.
+    pub(crate) fn frame(&mut self) -> Result<Option<Reg>, Stop>
+        ensures { Took (take_word frame self.old) result self.new }
+    {
+        let word = self.next_word()?;
+        fitting(frame_of(word))
+    }
+
+    /// An address.
+    pub(crate) fn hex(&mut self) -> Result<u64, Stop>
+        ensures { Took (take_word hex self.old) result self.new }
+    {
+        let word = self.next_word()?;
+        fitting(read_hex(word))
+    }
+
+    pub(crate) fn signed(&mut self) -> Result<i32, Stop>
+        ensures { Took (take_word signed self.old) result self.new }
+    {
+        let word = self.next_word()?;
+        fitting(i32_of(word))
+    }
+
+    /// Bytes in pairs of digits, or `-` for none.
+    pub(crate) fn digits(&mut self, alloc: Global) -> Result<Text, Stop>
+        ensures { Took (take_word digits self.old) result self.new }
+    {
+        let word = self.next_word()?;
+        digits_of(alloc, word)
+    }
+
+    pub(crate) fn entry_kind(&mut self) -> Result<PlaceKind, Stop>
+        ensures { Took (take_word entry_kind self.old) result self.new }
+    {
+        let word = self.next_word()?;
+        fitting(entry_kind_of(word))
+    }
+
+    pub(crate) fn piece_kind(&mut self) -> Result<PlaceKind, Stop>
+        ensures { Took (take_word piece_kind self.old) result self.new }
+    {
+        let word = self.next_word()?;
+        fitting(piece_kind_of(word))
+    }
+
+    /// Zones, which are all that is left.
+    pub(crate) fn zones(self, alloc: Global) -> Result<List<Zone>, Stop>
+        ensures { Read ((many zone).of self.entry) result }
+    {
+        let mut zones = List::new(alloc);
+        let mut left = self.left;
+        while let Some(line) = left {
+            let (word, more) = cut_word(line);
+            let Some(zone) = zone_of(word) else {
+                return Err(Stop::Unfit);
+            };
+            zones.push(zone)?;
+            left = more;
+        }
+        Ok(zones)
+    }
+
+    /// Operations one by one, which are all that is left.
+    fn each_operation(self, alloc: Global) -> Result<List<Op>, Stop>
+        ensures { Read (each_of operation (left_words self.entry)) result }
+    {
+        let mut ops = List::new(alloc);
+        let mut left = self.left;
+        while let Some(line) = left {
+            let (word, more) = cut_word(line);
+            let Some(op) = op_of(word) else {
+                return Err(Stop::Unfit);
+            };
+            ops.push(op)?;
+            left = more;
+        }
+        Ok(ops)
+    }
+
+    /// The operations of an expression, which are all that is left.
+    pub(crate) fn operations(self, alloc: Global) -> Result<Ops, Stop>
+        ensures { Read (operations.of self.entry) result }
+    {
+        let ops = self.each_operation(alloc)?;
+        fitting(Ops::new(ops))
     }
 }
 

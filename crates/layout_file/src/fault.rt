@@ -1,4 +1,5 @@
 //! Where a line stands.
+use crate::open_entry::OpenEntry;
 use layout_model::Set;
 
 /// What stands before a line.
@@ -8,6 +9,6 @@ pub(crate) enum Front<'a> {
     First,
     /// The version.
     Second,
-    /// The text of a set.
-    Behind(&'a Set),
+    /// The text of a set, and of the entry that stands open behind it.
+    Behind(&'a Set, Option<&'a OpenEntry>),
 }

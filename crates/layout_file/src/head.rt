@@ -24,10 +24,13 @@ pub(crate) fn read_head(alloc: Global, bytes: &[u8]) -> Result<(Reading, &[u8]),
         target: Target { ptr },
         types: List::new(alloc),
         statics: List::new(alloc),
+        funcs: List::new(alloc),
     };
     let reading = Reading {
         set,
+        begun: None,
         parts: 0,
+        variables: 0,
         lines: 2,
     };
     Ok((reading, rest))

@@ -17,6 +17,12 @@ pub(crate) enum LineKind {
     Tag,
     Variant,
     Static,
+    Func,
+    Scope,
+    Var,
+    Arg,
+    At,
+    Piece,
 }
 
 /// What a type is, as the third word of its line says.
@@ -42,7 +48,31 @@ pub(crate) enum SelectorKind {
     Only,
 }
 
-const LINE_KINDS: [LineKind; 9] = [
+/// Where a variable or a piece of it is, as a word of its line says.
+#[derive(Clone, Copy, Debug, PartialEq, Eq)]
+pub(crate) enum PlaceKind {
+    Reg,
+    Mem,
+    Fixed,
+    Value,
+    Expr,
+    /// In pieces, which only an entry may be.
+    Pieces,
+    /// Nowhere, which only a piece may be.
+    Nowhere,
+}
+
+/// An operation that has a number in its word.
+#[derive(Clone, Copy, Debug, PartialEq, Eq)]
+pub(crate) enum NumberedOp {
+    Const,
+    Deref,
+    Pick,
+    Plus,
+    Reg,
+}
+
+const LINE_KINDS: [LineKind; 15] = [
     LineKind::Version,
     LineKind::Target,
     LineKind::Type,
@@ -52,6 +82,12 @@ const LINE_KINDS: [LineKind; 9] = [
     LineKind::Tag,
     LineKind::Variant,
     LineKind::Static,
+    LineKind::Func,
+    LineKind::Scope,
+    LineKind::Var,
+    LineKind::Arg,
+    LineKind::At,
+    LineKind::Piece,
 ];
 
 const TYPE_KINDS: [TypeKind; 10] = [
@@ -211,6 +247,12 @@ pub(crate) fn line_kind_word(kind: LineKind) -> &'static [u8]
         LineKind::Tag => b"tag",
         LineKind::Variant => b"variant",
         LineKind::Static => b"static",
+        LineKind::Func => b"fn",
+        LineKind::Scope => b"scope",
+        LineKind::Var => b"var",
+        LineKind::Arg => b"arg",
+        LineKind::At => b"at",
+        LineKind::Piece => b"piece",
     }
 }
 

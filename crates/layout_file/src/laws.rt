@@ -1,5 +1,5 @@
 //! The laws of layout files.
-ghost use Rattle.layout_file.specs.Claims.{SpellOne, HaveNoFault};
+ghost use Rattle.layout_file.specs.Claims.{SpellOne, HaveNoFault, HaveOneFault};
 
 /// A file spells at most one set.
 pub fn a_file_spells_one_set()
@@ -9,4 +9,9 @@ pub fn a_file_spells_one_set()
 /// A file that spells a set is refused only for want of memory.
 pub fn a_spelled_file_has_no_fault()
     ensures { HaveNoFault }
+{}
+
+/// A file has at most one fault.
+pub fn a_file_has_at_most_one_fault()
+    ensures { HaveOneFault }
 {}

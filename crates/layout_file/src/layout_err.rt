@@ -7,9 +7,9 @@ use thiserror::Error;
 pub enum Count {
     /// Types: 20,000.
     Types,
-    /// Params, fields, cases and variants: 40,000 together.
+    /// Params, fields, cases, variants, scopes, zones, entries, pieces and operations: 40,000 together.
     Parts,
-    /// Statics: 20,000.
+    /// Statics and the variables of functions: 20,000 together.
     Variables,
 }
 
@@ -22,9 +22,6 @@ pub enum LayoutErr {
     /// The first line with which the layout has too many of these.
     #[error("too many {which:?}")]
     Limit { which: Count },
-    /// A line begins a function, and functions aren't read yet.
-    #[error("not yet")]
-    NotYet,
     /// Memory has run out.
     #[error("out of memory")]
     Memory,

@@ -1,9 +1,11 @@
-//! The lines of types and statics.
+//! The lines of types, statics and functions.
 ghost use Rattle.std.specs.Prelude.{◌≡◌};
 ghost use Rattle.layout_file.specs.Lines.{kind_of_line};
 
 use crate::kinds::LineKind;
-use layout_model::{Case, Field, Param, Selector, Static, Tag, TypeDef};
+use layout_model::{
+    Case, Field, Func, Param, Piece, Place, Scope, Selector, Static, Tag, TypeDef, Var,
+};
 use type_names::Word;
 
 /// A line of a layout file behind its first two.
@@ -18,6 +20,18 @@ pub(crate) enum Line {
     /// A variant, without its fields.
     Variant(Word, Selector),
     Static(Static),
+    /// A function, without its scopes.
+    Func(Func),
+    /// A scope, without its variables.
+    Scope(Scope),
+    /// A variable or a parameter, without its entries.
+    Var(Var),
+    /// An entry of one place: the first address, the one past the last, and the place.
+    Whole(u64, u64, Place),
+    /// An entry of so many pieces: the first address, the one past the last, and the number of lines of pieces that follow.
+    Pieces(u64, u64, u32),
+    /// A piece of the entry before.
+    Piece(Piece),
 }
 
 /// What the line is.
@@ -32,5 +46,16 @@ pub(crate) fn kind_of(line: &Line) -> LineKind
         Line::Tag(_) => LineKind::Tag,
         Line::Variant(_, _) => LineKind::Variant,
         Line::Static(_) => LineKind::Static,
+        Line::Func(_) => LineKind::Func,
+        Line::Scope(_) => LineKind::Scope,
+        Line::Var(var) => {
+            if var.param {
+                LineKind::Arg
+            } else {
+                LineKind::Var
+            }
+        }
+        Line::Whole(_, _, _) | Line::Pieces(_, _, _) => LineKind::At,
+        Line::Piece(_) => LineKind::Piece,
     }
 }

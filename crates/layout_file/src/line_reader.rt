@@ -8,13 +8,14 @@ ghost use Rattle.layout_file.specs.ReadLines.{type_of, selector_of, type_line_of
 ghost use Rattle.layout_file.specs.Steps.{Read};
 
 use crate::cursor::{Stop, Words};
+use crate::func_reader::{at_of, func_of, piece_of, scope_of, var_of};
 use crate::kinds::{LineKind, SelectorKind, TypeKind, line_kind_of};
 use crate::line::Line;
 use layout_model::{Case, Field, Param, Selector, Static, Tag, TypeDef};
 use rv_io::List;
 use std::alloc::Global;
 
-/// The line of types or statics with this text, where `next` is the number of the next type.
+/// The line with this text, where `next` is the number of the next type.
 #[tactic(auto, unfolding(crate::specs::ReadLines::line_of))]
 pub(crate) fn line_of(alloc: Global, next: u32, text: &[u8]) -> Result<Line, Stop>
     ensures { Read (line_of next text.now) result }
@@ -40,6 +41,12 @@ fn rest_of(alloc: Global, next: u32, kind: LineKind, words: Words) -> Result<Lin
         LineKind::Tag => tag_of(words),
         LineKind::Variant => variant_of(alloc, words),
         LineKind::Static => static_of(alloc, words),
+        LineKind::Func => func_of(alloc, words),
+        LineKind::Scope => scope_of(alloc, words),
+        LineKind::Var => var_of(alloc, false, words),
+        LineKind::Arg => var_of(alloc, true, words),
+        LineKind::At => at_of(alloc, words),
+        LineKind::Piece => piece_of(alloc, words),
     }
 }
 

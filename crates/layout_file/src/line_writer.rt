@@ -30,7 +30,7 @@ pub(crate) fn put_decimal(number: u128, out: &mut Buf) -> Result<(), Memory>
 }
 
 /// Puts a space and a word.
-fn put_word(word: &[u8], out: &mut Buf) -> Result<(), Memory>
+pub(crate) fn put_word(word: &[u8], out: &mut Buf) -> Result<(), Memory>
     ensures put { OnOk result (out.new ≡ out.old ++ 32 ∷ word.now) }
     ensures front { OnErr result (take (length out.old) out.new ≡ out.old) }
 {
@@ -39,7 +39,7 @@ fn put_word(word: &[u8], out: &mut Buf) -> Result<(), Memory>
 }
 
 /// Puts a space and a number in decimal.
-fn put_number(number: u128, out: &mut Buf) -> Result<(), Memory>
+pub(crate) fn put_number(number: u128, out: &mut Buf) -> Result<(), Memory>
     ensures put { OnOk result (out.new ≡ out.old ++ 32 ∷ decimal number) }
     ensures front { OnErr result (take (length out.old) out.new ≡ out.old) }
 {
@@ -48,7 +48,7 @@ fn put_number(number: u128, out: &mut Buf) -> Result<(), Memory>
 }
 
 /// Puts a space and a reference to a type.
-fn put_reference(ty: TypeRef, out: &mut Buf) -> Result<(), Memory>
+pub(crate) fn put_reference(ty: TypeRef, out: &mut Buf) -> Result<(), Memory>
     ensures put { OnOk result (out.new ≡ out.old ++ 32 ∷ reference_text ty) }
     ensures front { OnErr result (take (length out.old) out.new ≡ out.old) }
 {
@@ -72,7 +72,7 @@ fn put_address(addr: Option<u64>, out: &mut Buf) -> Result<(), Memory>
     }
 }
 
-fn put_hexadecimal(at: u64, out: &mut Buf) -> Result<(), Memory>
+pub(crate) fn put_hexadecimal(at: u64, out: &mut Buf) -> Result<(), Memory>
     ensures put { OnOk result (out.new ≡ out.old ++ 32 ∷ hex_text at) }
     ensures front { OnErr result (take (length out.old) out.new ≡ out.old) }
 {
@@ -80,7 +80,8 @@ fn put_hexadecimal(at: u64, out: &mut Buf) -> Result<(), Memory>
     out.put(text.as_bytes())
 }
 
-fn put_text_of_name(name: &Name, out: &mut Buf) -> Result<(), Memory>
+/// Puts a proper name in Rust's spelling, or a raw name quoted and escaped.
+pub(crate) fn put_text_of_name(name: &Name, out: &mut Buf) -> Result<(), Memory>
     ensures put { OnOk result (out.new ≡ out.old ++ name_text name.now) }
     ensures front { OnErr result (take (length out.old) out.new ≡ out.old) }
 {
@@ -91,7 +92,7 @@ fn put_text_of_name(name: &Name, out: &mut Buf) -> Result<(), Memory>
 }
 
 /// Puts a space and a name.
-fn put_name(name: &Name, out: &mut Buf) -> Result<(), Memory>
+pub(crate) fn put_spaced_name(name: &Name, out: &mut Buf) -> Result<(), Memory>
     ensures put { OnOk result (out.new ≡ out.old ++ 32 ∷ name_text name.now) }
     ensures front { OnErr result (take (length out.old) out.new ≡ out.old) }
 {
@@ -299,7 +300,7 @@ fn put_sized(size: u32, align: u32, name: &Name, out: &mut Buf) -> Result<(), Me
 {
     put_number(u128::from(size), out)?;
     put_number(u128::from(align), out)?;
-    put_name(name, out)
+    put_spaced_name(name, out)
 }
 
 /// Puts a kind of pointer and what it points to.
@@ -318,7 +319,7 @@ fn put_fat(kind: PtrKind, to: TypeRef, name: &Name, out: &mut Buf) -> Result<(),
 {
     put_word(pointer_word(kind), out)?;
     put_reference(to, out)?;
-    put_name(name, out)
+    put_spaced_name(name, out)
 }
 
 /// Puts what follows a type's kind in its line.
@@ -348,12 +349,12 @@ fn put_type_rest(def: &TypeDef, out: &mut Buf) -> Result<(), Memory>
         } => {
             put_pointer(*kind, *ptr, out)?;
             put_reference(*vtable, out)?;
-            put_name(name, out)
+            put_spaced_name(name, out)
         }
         TypeDef::FnPtr => Ok(()),
         TypeDef::CLike { name, tag, .. } => {
             put_word(primitive_word(*tag), out)?;
-            put_name(name, out)
+            put_spaced_name(name, out)
         }
         TypeDef::Enum {
             name,
@@ -410,7 +411,7 @@ fn put_static_words(item: &Static, out: &mut Buf) -> Result<(), Memory>
 {
     put_address(item.addr, out)?;
     put_reference(item.ty, out)?;
-    put_name(&item.name, out)
+    put_spaced_name(&item.name, out)
 }
 
 fn put_static(item: &Static, out: &mut Buf) -> Result<(), Memory>

@@ -1,24 +1,19 @@
 //! Which rule a line breaks that spells nothing that may stand there.
-ghost use Rattle.std.specs.Prelude.{◌≡◌, IfOk, Some, None, Ok, min, if◌then◌else◌, drop, ◌∷◌};
-ghost use Rattle.layout_file.specs.Faults.{front_of, may_stand, next_number, unless, not_next, broken, lower, lowest_broken, fits, type_slots, selector_slots, first_word, second_word, places_of, rule_of_words, rule_of_kind, rule_of};
-ghost use Rattle.layout_file.specs.Kinds.{type_kind_of, selector_kind_of, primitive_of};
-ghost use Rattle.layout_file.specs.Spellings.{begins_with, number_of, word_of, name_of};
-ghost use Rattle.layout_file.specs.Forms.{cut};
+ghost use Rattle.std.specs.Prelude.{◌≡◌, IfOk, Some, Ok, ◌∷◌};
+ghost use Rattle.layout_file.specs.Faults.{front_of, may_stand, next_number, is_rest, is_optional, lowest_broken, fits, type_slots, selector_slots, place_slots, second_word, third_word, places_of, rule_of_words, rule_of_kind, rule_of};
 ghost use Rattle.layout_file.specs.declared.kinds.LineKind.TheVariants as firsts;
 ghost use Rattle.layout_file.specs.declared.slot.Slot.TheVariants as slots;
 ghost use Rattle.layout_file.specs.Steps.{lent, seen};
 
-use crate::addition::may_follow;
-use crate::chars::name_of;
-use crate::cursor::Stop;
 use crate::fault::Front;
 use crate::kinds::{
-    LineKind, SelectorKind, TypeKind, line_kind_of, pointer_of, primitive_of, selector_kind_of,
-    type_kind_of,
+    LineKind, PlaceKind, SelectorKind, TypeKind, line_kind_of, selector_kind_of, type_kind_of,
 };
-use crate::numbers::{address_of, number_of, u32_of, word_of};
+use crate::lowest_words::{broken, cut, lower};
+use crate::order::may_follow;
+use crate::place_words::{entry_kind_of, piece_kind_of};
 use crate::slot::Slot;
-use readers::{cut_word, is_text};
+use readers::is_text;
 use rv_io::Memory;
 use std::alloc::Global;
 
@@ -61,7 +56,7 @@ fn may_stand(front: Front, kind: LineKind) -> bool
     match front {
         Front::First => matches!(kind, LineKind::Version),
         Front::Second => matches!(kind, LineKind::Target),
-        Front::Behind(set) => may_follow(set, kind),
+        Front::Behind(set, begun) => may_follow(set, begun, kind),
     }
 }
 
@@ -71,7 +66,7 @@ fn next_number(front: Front) -> usize
 {
     match front {
         Front::First | Front::Second => 0,
-        Front::Behind(set) => set.types.as_slice().len(),
+        Front::Behind(set, _) => set.types.as_slice().len(),
     }
 }
 
@@ -91,12 +86,18 @@ fn rule_of_words(
     }
 }
 
-/// The first word, and what is left.
-fn cut(line: &[u8]) -> (&[u8], Option<&[u8]>)
-    ensures first { result.0.now ≡ (cut line.now).0 }
-    ensures left { lent result.1 ≡ (cut line.now).1 }
+/// Whether all that is left of the line is at such a place.
+fn is_rest(place: Slot) -> bool
+    ensures { result ≡ is_rest place }
 {
-    cut_word(line)
+    matches!(place, Slot::Name | Slot::Zones | Slot::Operations)
+}
+
+/// Whether there may be nothing at such a place.
+fn is_optional(place: Slot) -> bool
+    ensures { result ≡ is_optional place }
+{
+    matches!(place, Slot::Zones)
 }
 
 /// Whether there are as many words as places.
@@ -106,9 +107,9 @@ fn fits(places: &[Slot], left: Option<&[u8]>) -> bool
     let mut left = left;
     for place in places {
         let Some(line) = left else {
-            return false;
+            return is_optional(*place);
         };
-        if let Slot::Name = place {
+        if is_rest(*place) {
             return true;
         }
         left = cut(line).1;
@@ -131,96 +132,14 @@ fn lowest_broken(
         let Some(line) = left else {
             return Ok(lowest);
         };
-        if let Slot::Name = place {
-            return Ok(lower(lowest, broken(alloc, next, Slot::Name, line)?));
+        if is_rest(*place) {
+            return Ok(lower(lowest, broken(alloc, next, *place, line)?));
         }
         let (word, more) = cut(line);
         lowest = lower(lowest, broken(alloc, next, *place, word)?);
         left = more;
     }
     Ok(lowest)
-}
-
-/// The lower of two rules.
-fn lower(a: Option<u8>, b: Option<u8>) -> Option<u8>
-    ensures { result ≡ lower a b }
-{
-    match (a, b) {
-        (None, b) => b,
-        (Some(a), None) => Some(a),
-        (Some(a), Some(b)) => Some(if a < b { a } else { b }),
-    }
-}
-
-/// The rule that a word breaks at such a place, if it breaks one.
-fn broken(alloc: Global, next: usize, place: Slot, text: &[u8]) -> Result<Option<u8>, Memory>
-    ensures { IfOk result (λ r. r ≡ broken next place text.now) }
-{
-    match place {
-        Slot::Version => Ok(if text == b"1".as_slice() {
-            None
-        } else {
-            Some(4)
-        }),
-        Slot::Next => Ok(not_next(next, u32_of(text))),
-        Slot::Number(bits) => Ok(unless(4, number_of(text, bits.min(128)))),
-        Slot::Address => Ok(unless(4, address_of(text))),
-        Slot::Reference => Ok(broken_reference(text)),
-        Slot::Pointer => Ok(unless(7, pointer_of(text))),
-        Slot::Primitive => Ok(unless(7, primitive_of(text))),
-        Slot::Kind => Ok(None),
-        Slot::Word => broken_word(alloc, text),
-        Slot::Name => broken_name(alloc, text),
-    }
-}
-
-/// The rule, where there is no such item.
-fn unless<T: Drop>(rule: u8, item: Option<T>) -> Option<u8>
-    ensures { result ≡ unless rule item }
-{
-    match item {
-        Some(_) => None,
-        None => Some(rule),
-    }
-}
-
-/// The rule that a number of a type breaks, where `next` is the number of the next one.
-fn not_next(next: usize, number: Option<u32>) -> Option<u8>
-    ensures { result ≡ not_next next number }
-{
-    match number {
-        None => Some(4),
-        Some(n) => { if n as usize == next { None } else { Some(5) } }
-    }
-}
-
-fn broken_reference(text: &[u8]) -> Option<u8>
-    ensures { result ≡ if begins_with 35 text.now then unless 4 (number_of 32 (drop 1 text.now)) else unless 7 (primitive_of text.now) }
-{
-    match text.strip_prefix(b"#".as_slice()) {
-        Some(digits) => unless(4, u32_of(digits)),
-        None => unless(7, primitive_of(text)),
-    }
-}
-
-fn broken_word(alloc: Global, text: &[u8]) -> Result<Option<u8>, Memory>
-    ensures { IfOk result (λ r. r ≡ unless 6 (word_of text.now)) }
-{
-    match word_of(alloc, text) {
-        Ok(_) => Ok(None),
-        Err(Stop::Unfit) => Ok(Some(6)),
-        Err(Stop::Memory) => Err(Memory),
-    }
-}
-
-fn broken_name(alloc: Global, text: &[u8]) -> Result<Option<u8>, Memory>
-    ensures { IfOk result (λ r. r ≡ unless 6 (name_of text.now)) }
-{
-    match name_of(alloc, text) {
-        Ok(_) => Ok(None),
-        Err(Stop::Unfit) => Ok(Some(6)),
-        Err(Stop::Memory) => Err(Memory),
-    }
 }
 
 /// What must stand behind the first word, or the rule that is broken where that can't be known.
@@ -237,6 +156,11 @@ fn places_of(kind: LineKind, left: Option<&[u8]>) -> Result<&'static [Slot], u8>
         LineKind::Tag => Ok(&[Slot::Number(32), Slot::Primitive]),
         LineKind::Variant => variant_places(left),
         LineKind::Static => Ok(&[Slot::Address, Slot::Reference, Slot::Name]),
+        LineKind::Func => Ok(&[Slot::Frame, Slot::Name]),
+        LineKind::Scope => Ok(&[Slot::Number(32), Slot::Zones]),
+        LineKind::Var | LineKind::Arg => Ok(&[Slot::Word, Slot::Reference]),
+        LineKind::At => entry_places(left),
+        LineKind::Piece => piece_places(left),
     }
 }
 
@@ -247,6 +171,13 @@ fn second_word(left: Option<&[u8]>) -> Option<&[u8]>
     let behind = cut(left?).1;
     let (second, _) = cut(behind?);
     Some(second)
+}
+
+/// The third of the words that are left, if there is one.
+fn third_word(left: Option<&[u8]>) -> Option<&[u8]>
+    ensures { lent result ≡ third_word (lent left.entry) }
+{
+    second_word(cut(left?).1)
 }
 
 fn type_places(left: Option<&[u8]>) -> Result<&'static [Slot], u8>
@@ -315,5 +246,65 @@ fn variant_slots(kind: SelectorKind) -> &'static [Slot]
         SelectorKind::Exact => &[Slot::Word, Slot::Kind, Slot::Number(128)],
         SelectorKind::Span => &[Slot::Word, Slot::Kind, Slot::Number(128), Slot::Number(128)],
         SelectorKind::Only => &[Slot::Word, Slot::Kind],
+    }
+}
+
+fn entry_places(left: Option<&[u8]>) -> Result<&'static [Slot], u8>
+    ensures { seen result ≡ places_of firsts.At (lent left.entry) }
+{
+    let Some(word) = third_word(left) else {
+        return Err(3);
+    };
+    match entry_kind_of(word) {
+        Some(kind) => Ok(entry_slots(kind)),
+        None => Err(2),
+    }
+}
+
+fn piece_places(left: Option<&[u8]>) -> Result<&'static [Slot], u8>
+    ensures { seen result ≡ places_of firsts.Piece (lent left.entry) }
+{
+    let Some(word) = second_word(left) else {
+        return Err(3);
+    };
+    match piece_kind_of(word) {
+        Some(kind) => Ok(piece_slots(kind)),
+        None => Err(2),
+    }
+}
+
+/// What must stand behind `at`.
+fn entry_slots(kind: PlaceKind) -> &'static [Slot]
+    ensures { result.now ≡ slots.Hex ∷ slots.Hex ∷ slots.Kind ∷ place_slots kind }
+{
+    match kind {
+        PlaceKind::Reg => &[Slot::Hex, Slot::Hex, Slot::Kind, Slot::Register],
+        PlaceKind::Mem => &[
+            Slot::Hex,
+            Slot::Hex,
+            Slot::Kind,
+            Slot::Register,
+            Slot::Signed,
+        ],
+        PlaceKind::Fixed => &[Slot::Hex, Slot::Hex, Slot::Kind, Slot::Hex],
+        PlaceKind::Value => &[Slot::Hex, Slot::Hex, Slot::Kind, Slot::Digits],
+        PlaceKind::Expr => &[Slot::Hex, Slot::Hex, Slot::Kind, Slot::Operations],
+        PlaceKind::Pieces => &[Slot::Hex, Slot::Hex, Slot::Kind, Slot::Number(32)],
+        PlaceKind::Nowhere => &[Slot::Hex, Slot::Hex, Slot::Kind],
+    }
+}
+
+/// What must stand behind `piece`.
+fn piece_slots(kind: PlaceKind) -> &'static [Slot]
+    ensures { result.now ≡ slots.Number 32 ∷ slots.Kind ∷ place_slots kind }
+{
+    match kind {
+        PlaceKind::Reg => &[Slot::Number(32), Slot::Kind, Slot::Register],
+        PlaceKind::Mem => &[Slot::Number(32), Slot::Kind, Slot::Register, Slot::Signed],
+        PlaceKind::Fixed => &[Slot::Number(32), Slot::Kind, Slot::Hex],
+        PlaceKind::Value => &[Slot::Number(32), Slot::Kind, Slot::Digits],
+        PlaceKind::Expr => &[Slot::Number(32), Slot::Kind, Slot::Operations],
+        PlaceKind::Pieces => &[Slot::Number(32), Slot::Kind, Slot::Number(32)],
+        PlaceKind::Nowhere => &[Slot::Number(32), Slot::Kind],
     }
 }

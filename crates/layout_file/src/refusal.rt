@@ -1,15 +1,12 @@
 //! How a line is refused.
-ghost use Rattle.std.specs.Prelude.{◌≡◌, ◌≢◌, None, codes};
-ghost use Rattle.std.specs.Str.{bytes_eq};
+ghost use Rattle.std.specs.Prelude.{◌≢◌, None};
 ghost use Rattle.layout_file.specs.Faults.{front_of, rule_of};
 ghost use Rattle.layout_file.specs.Claims.{SpellsNone};
-ghost use Rattle.layout_file.specs.Forms.{cut};
 ghost use Rattle.layout_file.specs.Progress.{Refuses, RefusesEnd};
 
 use crate::fault::Front;
 use crate::layout_err::LayoutErr;
 use crate::lowest::rule_of;
-use readers::cut_word;
 use std::alloc::Global;
 
 /// Why a line is refused that spells nothing which may stand there; `before` lines stand before it.
@@ -18,9 +15,6 @@ pub(crate) fn refuse(alloc: Global, front: Front, before: u32, line: &[u8]) -> L
     requires rule { rule_of (front_of front) line.now ≢ None }
     ensures { Refuses (front_of front.entry) before line.now result }
 {
-    if is_function(line) {
-        return LayoutErr::NotYet;
-    }
     match rule_of(alloc, front, line) {
         Ok(Some(rule)) => LayoutErr::BadLine {
             line: before.saturating_add(1),
@@ -35,19 +29,8 @@ pub(crate) fn refuse(alloc: Global, front: Front, before: u32, line: &[u8]) -> L
 pub(crate) fn refuse_end(before: u32, rest: &[u8]) -> LayoutErr
     ensures { RefusesEnd before rest.now result }
 {
-    if is_function(rest) {
-        return LayoutErr::NotYet;
-    }
     LayoutErr::BadLine {
         line: before.saturating_add(1),
         rule: if rest.is_empty() { 2 } else { 1 },
     }
-}
-
-/// Whether the line begins a function.
-fn is_function(line: &[u8]) -> bool
-    ensures { result ≡ bytes_eq (cut line.now).0 (codes "fn") }
-{
-    let (first, _) = cut_word(line);
-    first == b"fn".as_slice()
 }

@@ -23,4 +23,18 @@ pub(crate) enum Slot {
     Word,
     /// A name, which is the rest of the line.
     Name,
+    /// A register, or `none`.
+    Frame,
+    /// A register.
+    Register,
+    /// A signed number of 32 bits.
+    Signed,
+    /// An address.
+    Hex,
+    /// Bytes in pairs of digits, or `-` for none.
+    Digits,
+    /// Zones, of which each is a word, and which are the rest of the line; there may be none.
+    Zones,
+    /// Operations, of which each is a word, and which are the rest of the line.
+    Operations,
 }

@@ -3,6 +3,7 @@ ghost use Rattle.std.specs.Prelude.{◌≡◌, ◌++◌, length, take, OnOk, OnE
 ghost use Rattle.layout_file.specs.Sets.{layout_text, head_text, version_text, target_text};
 ghost use Rattle.readers.specs.Lines.{with_end};
 
+use crate::func_writer::put_funcs;
 use crate::line_writer::{put_decimal, put_end, put_statics, put_types};
 use layout_model::Set;
 use rv_io::{Buf, Memory};
@@ -32,13 +33,29 @@ fn put_head(ptr: u8, out: &mut Buf) -> Result<(), Memory>
     put_target(ptr, out)
 }
 
-/// Appends the layout file of the set. After want of memory `out` holds what it held before, and perhaps a front of the
-/// file.
+/// Appends the layout file of the set. After want of memory `out` is as it was.
 pub fn write(set: &Set, out: &mut Buf) -> Result<(), Memory>
+    // The text of the set is appended.
+    ensures put { OnOk result (out.new ≡ out.old ++ layout_text set.now) }
+
+    // After want of memory nothing has changed.
+    ensures same { OnErr result (out.new ≡ out.old) }
+{
+    let len = out.as_bytes().len();
+    let done = put_set(set, out);
+    if done.is_err() {
+        out.truncate(len);
+    }
+    done
+}
+
+/// Puts the lines of a set.
+fn put_set(set: &Set, out: &mut Buf) -> Result<(), Memory>
     ensures put { OnOk result (out.new ≡ out.old ++ layout_text set.now) }
     ensures front { OnErr result (take (length out.old) out.new ≡ out.old) }
 {
     put_head(set.target.ptr, out)?;
     put_types(set.types.as_slice(), out)?;
-    put_statics(set.statics.as_slice(), out)
+    put_statics(set.statics.as_slice(), out)?;
+    put_funcs(set.funcs.as_slice(), out)
 }

@@ -3,7 +3,7 @@ use Rattle.std.proofs.Common.{zero, suc, min, ◌≡◌, ℕ, ◌+◌, ◌<◌, 
 use Rattle.std.specs.Bool.{Decides}
 use Rattle.std.proofs.lemmas.Bool.{cases_lt, cases_order}
 use Rattle.layout_model.specs.declared.breach.Item.{Item}
-use Rattle.layout_model.specs.declared.breach.Item.TheVariants.{Whole, Def, Static}
+use Rattle.layout_model.specs.declared.breach.Item.TheVariants.{Whole, Def, Static, Func}
 use Rattle.layout_model.specs.declared.breach.CheckErr.{CheckErr}
 use Rattle.layout_model.specs.declared.breach.CheckErr.TheVariants.{Breach, Memory}
 use Rattle.layout_model.specs.declared.set.Set.{Set}
@@ -22,36 +22,51 @@ more_below P i all one j h = elim (cases_lt j i) as (λ _. P j) [
 fails : (set : Set) (n : ℕ) (law : Law) (at : Item) → IsItem set at → (law at → ⊥) → ((x : Item) → IsItem set x → Precedes x at → law x) → Found set n law (Err (Breach n (named at)))
 fails set n law at is broken earlier = (refl, (at, (record { is = is; broken = broken; earlier = earlier }, refl)))
 
--- a law, from what is found of the whole, of types and of statics
-pub one_law : (set : Set) (n : ℕ) (law : Law) (whole : Bool) (def fixed : Option ℕ) → Decides whole (law Whole) → IsFirst (λ i. law (Def i)) (length set.types) def → IsFirst (λ i. law (Static i)) (length set.statics) fixed → Found set n law (parts n whole def fixed)
-one_law set n law false def fixed w d s = fails set n law Whole tt (λ l. elim (let f : ⊥ = grind (arith, w.1 l) in f) [ ]) before
+-- a law, from what is found of the whole, of types, of statics and of functions
+pub one_law : (set : Set) (n : ℕ) (law : Law) (whole : Bool) (def fixed func : Option ℕ) → Decides whole (law Whole) → IsFirst (λ i. law (Def i)) (length set.types) def → IsFirst (λ i. law (Static i)) (length set.statics) fixed → IsFirst (λ i. law (Func i)) (length set.funcs) func → Found set n law (parts n whole def fixed func)
+one_law set n law false def fixed func w d s f = fails set n law Whole tt (λ l. elim (let f : ⊥ = grind (arith, w.1 l) in f) [ ]) before
   where
     before : (x : Item) → IsItem set x → Precedes x Whole → law x
     before Whole is h = elim h [ ]
     before (Def i) is h = elim h [ ]
     before (Static i) is h = elim h [ ]
-one_law set n law true (Some i) fixed w d s = fails set n law (Def i) d.0 d.1.0 before
+    before (Func i) is h = elim h [ ]
+one_law set n law true (Some i) fixed func w d s f = fails set n law (Def i) d.0 d.1.0 before
   where
     before : (x : Item) → IsItem set x → Precedes x (Def i) → law x
     before Whole is h = w.0 refl
     before (Def j) is h = d.1.1 j h
     before (Static j) is h = elim h [ ]
-one_law set n law true None (Some i) w d s = fails set n law (Static i) s.0 s.1.0 before
+    before (Func j) is h = elim h [ ]
+one_law set n law true None (Some i) func w d s f = fails set n law (Static i) s.0 s.1.0 before
   where
     before : (x : Item) → IsItem set x → Precedes x (Static i) → law x
     before Whole is h = w.0 refl
     before (Def j) is h = d j is
     before (Static j) is h = s.1.1 j h
-one_law set n law true None None w d s = all
+    before (Func j) is h = elim h [ ]
+one_law set n law true None None (Some i) w d s f = fails set n law (Func i) f.0 f.1.0 before
+  where
+    before : (x : Item) → IsItem set x → Precedes x (Func i) → law x
+    before Whole is h = w.0 refl
+    before (Def j) is h = d j is
+    before (Static j) is h = s j is
+    before (Func j) is h = f.1.1 j h
+one_law set n law true None None None w d s f = all
   where
     all : (x : Item) → IsItem set x → law x
     all Whole is = w.0 refl
     all (Def j) is = d j is
     all (Static j) is = s j is
+    all (Func j) is = f j is
 
 -- a law of types alone
-pub of_types : (set : Set) (n : ℕ) (law : Law) (def : Option ℕ) → law Whole → ((i : ℕ) → law (Static i)) → IsFirst (λ i. law (Def i)) (length set.types) def → Found set n law (parts n true def None)
-of_types set n law def w s d = one_law set n law true def None ((λ _. w), λ _. refl) d (λ i _. s i)
+pub of_types : (set : Set) (n : ℕ) (law : Law) (def : Option ℕ) → law Whole → ((i : ℕ) → law (Static i)) → ((i : ℕ) → law (Func i)) → IsFirst (λ i. law (Def i)) (length set.types) def → Found set n law (parts n true def None None)
+of_types set n law def w s f d = one_law set n law true def None None ((λ _. w), λ _. refl) d (λ i _. s i) (λ i _. f i)
+
+-- a law of functions alone
+pub of_funcs : (set : Set) (n : ℕ) (law : Law) (func : Option ℕ) → law Whole → ((i : ℕ) → law (Def i)) → ((i : ℕ) → law (Static i)) → IsFirst (λ i. law (Func i)) (length set.funcs) func → Found set n law (parts n true None None func)
+of_funcs set n law func w d s f = one_law set n law true None None func ((λ _. w), λ _. refl) (λ i _. d i) (λ i _. s i) f
 
 pub go_on : (set : Set) (n : ℕ) (law : Law) (laws : List Numbered) (r : Result (Unit {0}) CheckErr) → Holds set law → InOrder set laws r → InOrder set (record { number = n; law = law } ∷ laws) r
 go_on set n law laws (Ok t) h rest = (h, rest)
@@ -114,17 +129,27 @@ order : (a b : Item) → Precedes a b ⊎ ((a ≡ b) ⊎ Precedes b a)
 order Whole Whole = inr (inl refl)
 order Whole (Def j) = inl tt
 order Whole (Static j) = inl tt
+order Whole (Func j) = inl tt
 order (Def i) Whole = inr (inr tt)
 order (Def i) (Def j) = elim (cases_order i j) as (λ _. Precedes (Def i) (Def j) ⊎ ((Def i ≡ Def j) ⊎ Precedes (Def j) (Def i))) [
   | inl e ↦ inr (inl (ap Def e))
   | inr w ↦ elim w as (λ _. Precedes (Def i) (Def j) ⊎ ((Def i ≡ Def j) ⊎ Precedes (Def j) (Def i))) [ inl l ↦ inl l | inr g ↦ inr (inr g) ]
 ]
 order (Def i) (Static j) = inl tt
+order (Def i) (Func j) = inl tt
 order (Static i) Whole = inr (inr tt)
 order (Static i) (Def j) = inr (inr tt)
 order (Static i) (Static j) = elim (cases_order i j) as (λ _. Precedes (Static i) (Static j) ⊎ ((Static i ≡ Static j) ⊎ Precedes (Static j) (Static i))) [
   | inl e ↦ inr (inl (ap Static e))
   | inr w ↦ elim w as (λ _. Precedes (Static i) (Static j) ⊎ ((Static i ≡ Static j) ⊎ Precedes (Static j) (Static i))) [ inl l ↦ inl l | inr g ↦ inr (inr g) ]
+]
+order (Static i) (Func j) = inl tt
+order (Func i) Whole = inr (inr tt)
+order (Func i) (Def j) = inr (inr tt)
+order (Func i) (Static j) = inr (inr tt)
+order (Func i) (Func j) = elim (cases_order i j) as (λ _. Precedes (Func i) (Func j) ⊎ ((Func i ≡ Func j) ⊎ Precedes (Func j) (Func i))) [
+  | inl e ↦ inr (inl (ap Func e))
+  | inr w ↦ elim w as (λ _. Precedes (Func i) (Func j) ⊎ ((Func i ≡ Func j) ⊎ Precedes (Func j) (Func i))) [ inl l ↦ inl l | inr g ↦ inr (inr g) ]
 ]
 
 -- a law fails first at one item only

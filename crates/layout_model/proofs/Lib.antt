@@ -1,4 +1,7 @@
 pub mod Firsts
+pub mod OpenScopes
+pub mod OperationParts
+pub mod Follows
 pub mod Chained
 pub mod Pairs
 pub mod Spans

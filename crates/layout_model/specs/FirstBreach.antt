@@ -1,28 +1,36 @@
 -- The lowest law that fails, and its first item.
 use Rattle.std.specs.Prelude.{zero, suc, ◌≡◌, ℕ, ◌-◌, ◌^◌, ◌<◌, min, List, [], ◌∷◌, length, Result, Ok, Err}
 use Rattle.layout_model.specs.declared.breach.Item.{Item}
-use Rattle.layout_model.specs.declared.breach.Item.TheVariants.{Whole, Def, Static}
+use Rattle.layout_model.specs.declared.breach.Item.TheVariants.{Whole, Def, Static, Func}
 use Rattle.layout_model.specs.declared.breach.CheckErr.{CheckErr}
 use Rattle.layout_model.specs.declared.breach.CheckErr.TheVariants.{Breach, Memory}
 use Rattle.layout_model.specs.declared.set.Set.{Set}
 
--- the items of a set: the whole, its types and its statics
+-- the items of a set: the whole, its types, its statics and its functions
 abbrev pub IsItem : Set → Item → Type 0
 IsItem set Whole = Unit {0}
 IsItem set (Def i) = i < length set.types
 IsItem set (Static i) = i < length set.statics
+IsItem set (Func i) = i < length set.funcs
 
--- the order of items: the whole, then types, then statics, each by place
+-- the order of items: the whole, then types, then statics, then functions, each by place
 abbrev pub Precedes : Item → Item → Type 0
 Precedes Whole Whole = ⊥
 Precedes Whole (Def j) = Unit {0}
 Precedes Whole (Static j) = Unit {0}
+Precedes Whole (Func j) = Unit {0}
 Precedes (Def i) Whole = ⊥
 Precedes (Def i) (Def j) = i < j
 Precedes (Def i) (Static j) = Unit {0}
+Precedes (Def i) (Func j) = Unit {0}
 Precedes (Static i) Whole = ⊥
 Precedes (Static i) (Def j) = ⊥
 Precedes (Static i) (Static j) = i < j
+Precedes (Static i) (Func j) = Unit {0}
+Precedes (Func i) Whole = ⊥
+Precedes (Func i) (Def j) = ⊥
+Precedes (Func i) (Static j) = ⊥
+Precedes (Func i) (Func j) = i < j
 
 -- a law says something of each item
 abbrev pub Law : Type 1
@@ -48,6 +56,7 @@ abbrev pub named : Item → Item
 named Whole = Whole
 named (Def i) = Def (min i (2 ^ 32 - 1))
 named (Static i) = Static (min i (2 ^ 32 - 1))
+named (Func i) = Func (min i (2 ^ 32 - 1))
 
 -- the law fails, and its first item is named so
 abbrev pub FailsAt : Set → Law → Item → Type 0

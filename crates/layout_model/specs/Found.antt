@@ -1,6 +1,6 @@
 -- What is found of one law. Private: `FirstBreach` says what it comes to.
 use Rattle.std.specs.Prelude.{◌≡◌, ℕ, ◌<◌, ◌⊎◌, min, List, [], ◌∷◌, Option, Some, None, Result, Ok, Err, Bool, true, false}
-use Rattle.layout_model.specs.declared.breach.Item.TheVariants.{Whole, Def, Static}
+use Rattle.layout_model.specs.declared.breach.Item.TheVariants.{Whole, Def, Static, Func}
 use Rattle.layout_model.specs.declared.breach.CheckErr.{CheckErr}
 use Rattle.layout_model.specs.declared.breach.CheckErr.TheVariants.{Breach, Memory}
 use Rattle.layout_model.specs.declared.set.Set.{Set}
@@ -17,12 +17,13 @@ earlier None b = b
 earlier (Some i) None = Some i
 earlier (Some i) (Some j) = Some (min i j)
 
--- what the whole, the first type and the first static of which a law is false come to
-abbrev pub parts : ℕ → Bool → Option ℕ → Option ℕ → Result (Unit {0}) CheckErr
-parts n false d s = Err (Breach n Whole)
-parts n true (Some i) s = Err (Breach n (named (Def i)))
-parts n true None (Some i) = Err (Breach n (named (Static i)))
-parts n true None None = Ok tt
+-- what the whole, the first type, the first static and the first function of which a law is false come to
+abbrev pub parts : ℕ → Bool → Option ℕ → Option ℕ → Option ℕ → Result (Unit {0}) CheckErr
+parts n false d s f = Err (Breach n Whole)
+parts n true (Some i) s f = Err (Breach n (named (Def i)))
+parts n true None (Some i) f = Err (Breach n (named (Static i)))
+parts n true None None (Some i) = Err (Breach n (named (Func i)))
+parts n true None None None = Ok tt
 
 -- what is found of one law, by its number
 abbrev pub Found : Set → ℕ → Law → Result (Unit {0}) CheckErr → Type 0

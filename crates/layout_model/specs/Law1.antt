@@ -1,7 +1,10 @@
 -- Law 1: each reference to a type of the set is below the number of its types.
 use Rattle.std.specs.Prelude.{ℕ, ◌<◌, length}
 use Rattle.std.specs.List.{All, HoldsAt}
-use Rattle.layout_model.specs.declared.breach.Item.TheVariants.{Whole, Def, Static}
+use Rattle.layout_model.specs.declared.breach.Item.TheVariants.{Whole, Def, Static, Func as OfFunc}
+use Rattle.layout_model.specs.declared.func.Func.{Func}
+use Rattle.layout_model.specs.declared.func.Scope.{Scope}
+use Rattle.layout_model.specs.declared.func.Var.{Var}
 use Rattle.layout_model.specs.declared.set.Set.{Set}
 use Rattle.layout_model.specs.declared.set.Static.{Static as FixedValue}
 use Rattle.layout_model.specs.declared.set.TypeRef.{TypeRef}
@@ -21,7 +24,18 @@ RefersWithin count t = All (IsWithin count) (references t)
 abbrev pub HasTypeWithin : ℕ → FixedValue → Type 0
 HasTypeWithin count s = IsWithin count s.ty
 
+abbrev pub VarWithin : ℕ → Var → Type 0
+VarWithin count v = IsWithin count v.ty
+
+abbrev pub VarsWithin : ℕ → Scope → Type 0
+VarsWithin count s = All (VarWithin count) s.vars
+
+-- the types of all its variables are within
+abbrev pub HasVarsWithin : ℕ → Func → Type 0
+HasVarsWithin count f = All (VarsWithin count) f.scopes
+
 abbrev pub Law1 : Set → Law
 Law1 set Whole = Unit {0}
 Law1 set (Def i) = HoldsAt (RefersWithin (length set.types)) set.types i
 Law1 set (Static i) = HoldsAt (HasTypeWithin (length set.types)) set.statics i
+Law1 set (OfFunc i) = HoldsAt (HasVarsWithin (length set.types)) set.funcs i

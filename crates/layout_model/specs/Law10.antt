@@ -3,8 +3,9 @@ use Rattle.std.specs.Prelude.{◌≡◌, ◌≢◌, ℕ, ◌<◌, ◌⊎◌, fal
 use Rattle.std.specs.List.{All, HoldsAt}
 use Rattle.type_names.specs.declared.name.Name.{Name}
 use Rattle.type_names.specs.Names.{IsProper}
-use Rattle.layout_model.specs.declared.breach.Item.TheVariants.{Whole, Def, Static}
+use Rattle.layout_model.specs.declared.breach.Item.TheVariants.{Whole, Def, Static, Func as OfFunc}
 use Rattle.layout_model.specs.declared.shapes.FatContent.TheVariants.{OfSlice, OfStr, OfDyn}
+use Rattle.layout_model.specs.declared.func.Func.{Func}
 use Rattle.layout_model.specs.declared.set.Set.{Set}
 use Rattle.layout_model.specs.declared.set.Static.{Static as FixedValue}
 use Rattle.layout_model.specs.declared.set.TypeDef.{TypeDef}
@@ -50,10 +51,14 @@ HasDerivedName types i = HoldsAt (OwnDerivedName types i) types i
 abbrev pub HasPathName : FixedValue → Type 0
 HasPathName s = IsGoodName s.name × IsTrue (is_path s.name)
 
+abbrev pub IsNamedByPath : Func → Type 0
+IsNamedByPath f = IsGoodName f.name × IsTrue (is_path f.name)
+
 abbrev pub Law10 : Set → Law
 Law10 set Whole = Unit {0}
 Law10 set (Def i) = (HoldsAt HasGoodName set.types i × IsNewName set.types i) × HasDerivedName set.types i
 Law10 set (Static i) = HoldsAt HasPathName set.statics i
+Law10 set (OfFunc i) = HoldsAt IsNamedByPath set.funcs i
 
 -- a name of Rust's grammar, or a raw text
 abbrev pub IsNamed : Name → Type 0
@@ -66,3 +71,4 @@ AreNamed types = All (λ t. IfSome (name_of t) IsNamed) types
 pub record IsSet (set : Set) : Type 0 where
   pub types : AreNamed set.types
   pub statics : All (λ s. IsNamed s.name) set.statics
+  pub funcs : All (λ f. IsNamed f.name) set.funcs

@@ -1,7 +1,7 @@
 -- Law 11: a type stands after the types without a name to which it refers.
 use Rattle.std.specs.Prelude.{ℕ, ◌<◌, List, slice_get, IsSomeAnd}
 use Rattle.std.specs.List.{All, HoldsAt}
-use Rattle.layout_model.specs.declared.breach.Item.TheVariants.{Whole, Def, Static}
+use Rattle.layout_model.specs.declared.breach.Item.TheVariants.{Whole, Def, Static, Func as OfFunc}
 use Rattle.layout_model.specs.declared.set.Set.{Set}
 use Rattle.layout_model.specs.declared.set.TypeRef.{TypeRef}
 use Rattle.layout_model.specs.declared.set.TypeRef.TheVariants.{Prim, User}
@@ -29,3 +29,4 @@ abbrev pub Law11 : Set → Law
 Law11 set Whole = Unit {0}
 Law11 set (Def i) = HoldsAt (StandsAfterNameless set.types i) set.types i
 Law11 set (Static i) = Unit {0}
+Law11 set (OfFunc i) = Unit {0}

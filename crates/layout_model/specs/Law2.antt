@@ -1,7 +1,7 @@
 -- Law 2: no type begins a chain of more than 256 types in which each contains the next by value.
 use Rattle.std.specs.Prelude.{ℕ, ◌<◌, ◌≤◌, List, [], ◌∷◌, length}
 use Rattle.std.specs.List.{Contains, HoldsAt}
-use Rattle.layout_model.specs.declared.breach.Item.TheVariants.{Whole, Def, Static}
+use Rattle.layout_model.specs.declared.breach.Item.TheVariants.{Whole, Def, Static, Func as OfFunc}
 use Rattle.layout_model.specs.declared.set.Set.{Set}
 use Rattle.layout_model.specs.declared.set.TypeRef.TheVariants.{User}
 use Rattle.layout_model.specs.declared.set.TypeDef.{TypeDef}
@@ -26,3 +26,4 @@ abbrev pub Law2 : Set → Law
 Law2 set Whole = Unit {0}
 Law2 set (Def i) = IsShallow set.types i
 Law2 set (Static i) = Unit {0}
+Law2 set (OfFunc i) = Unit {0}

@@ -1,7 +1,7 @@
 -- Law 4: each field and each tag ends within the size of its type.
 use Rattle.std.specs.Prelude.{ℕ, ◌+◌, ◌≤◌, List, Option, Some, None}
 use Rattle.std.specs.List.{All, HoldsAt}
-use Rattle.layout_model.specs.declared.breach.Item.TheVariants.{Whole, Def, Static}
+use Rattle.layout_model.specs.declared.breach.Item.TheVariants.{Whole, Def, Static, Func as OfFunc}
 use Rattle.layout_model.specs.declared.set.Set.{Set}
 use Rattle.layout_model.specs.declared.set.Field.{Field}
 use Rattle.layout_model.specs.declared.set.Tag.{Tag}
@@ -35,3 +35,4 @@ abbrev pub Law4 : Set → Law
 Law4 set Whole = Unit {0}
 Law4 set (Def i) = HoldsAt (HasPartsWithin set.types) set.types i
 Law4 set (Static i) = Unit {0}
+Law4 set (OfFunc i) = Unit {0}

@@ -1,7 +1,7 @@
 -- Law 5: tags are whole numbers, numbers fit their tag, and selectors fit the enum.
 use Rattle.std.specs.Prelude.{◌≡◌, ◌≢◌, ℕ, ◌^◌, ◌<◌, ◌≤◌, ◌↔◌, Bool, true, false, List, length, Option, IsTrue, IsSome, IsNone, IfSome}
 use Rattle.std.specs.List.{All, HoldsAt, count_by}
-use Rattle.layout_model.specs.declared.breach.Item.TheVariants.{Whole, Def, Static}
+use Rattle.layout_model.specs.declared.breach.Item.TheVariants.{Whole, Def, Static, Func as OfFunc}
 use Rattle.layout_model.specs.declared.primitive.Primitive.{Primitive}
 use Rattle.layout_model.specs.declared.primitive.Primitive.TheVariants.{I128, U128}
 use Rattle.layout_model.specs.declared.set.Set.{Set}
@@ -60,3 +60,4 @@ abbrev pub Law5 : Set → Law
 Law5 set Whole = Unit {0}
 Law5 set (Def i) = HoldsAt HasFitNumbers set.types i
 Law5 set (Static i) = Unit {0}
+Law5 set (OfFunc i) = Unit {0}

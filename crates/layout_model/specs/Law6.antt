@@ -1,7 +1,7 @@
 -- Law 6: the pointers in a fat pointer are thin pointers of the set, and that of a text leads to its bytes.
 use Rattle.std.specs.Prelude.{◌≡◌, List, slice_get, IsSomeAnd}
 use Rattle.std.specs.List.{HoldsAt}
-use Rattle.layout_model.specs.declared.breach.Item.TheVariants.{Whole, Def, Static}
+use Rattle.layout_model.specs.declared.breach.Item.TheVariants.{Whole, Def, Static, Func as OfFunc}
 use Rattle.layout_model.specs.declared.set.Set.{Set}
 use Rattle.layout_model.specs.declared.primitive.Primitive.TheVariants.{U8}
 use Rattle.layout_model.specs.declared.set.TypeRef.{TypeRef}
@@ -36,3 +36,4 @@ abbrev pub Law6 : Set → Law
 Law6 set Whole = Unit {0}
 Law6 set (Def i) = HoldsAt (HasThinPointers set.types) set.types i
 Law6 set (Static i) = Unit {0}
+Law6 set (OfFunc i) = Unit {0}

@@ -1,7 +1,7 @@
 -- Law 7: fields of size at least 1 don't overlap, and elements of arrays have a size of at least 1.
 use Rattle.std.specs.Prelude.{◌<◌, List}
 use Rattle.std.specs.List.{All, HoldsAt}
-use Rattle.layout_model.specs.declared.breach.Item.TheVariants.{Whole, Def, Static}
+use Rattle.layout_model.specs.declared.breach.Item.TheVariants.{Whole, Def, Static, Func as OfFunc}
 use Rattle.layout_model.specs.declared.set.Set.{Set}
 use Rattle.layout_model.specs.declared.set.Variant.{Variant}
 use Rattle.layout_model.specs.declared.set.TypeDef.{TypeDef}
@@ -23,3 +23,4 @@ abbrev pub Law7 : Set → Law
 Law7 set Whole = Unit {0}
 Law7 set (Def i) = HoldsAt (HasPartsApart set.types) set.types i
 Law7 set (Static i) = Unit {0}
+Law7 set (OfFunc i) = Unit {0}

@@ -1,7 +1,7 @@
 -- Law 8: numbers of cases and of variants are distinct, and a span is what the exact numbers leave.
 use Rattle.std.specs.Prelude.{◌≡◌, ℕ, ◌+◌, ◌-◌, ◌%◌, ◌^◌, ◌<◌, List, [], ◌∷◌, length, map, Option, Some, None}
 use Rattle.std.specs.List.{All, AllAdjacentBelow, HoldsAt, filter_map}
-use Rattle.layout_model.specs.declared.breach.Item.TheVariants.{Whole, Def, Static}
+use Rattle.layout_model.specs.declared.breach.Item.TheVariants.{Whole, Def, Static, Func as OfFunc}
 use Rattle.layout_model.specs.declared.set.Set.{Set}
 use Rattle.layout_model.specs.declared.set.Case.{Case}
 use Rattle.layout_model.specs.declared.set.Tag.{Tag}
@@ -56,3 +56,4 @@ abbrev pub Law8 : Set → Law
 Law8 set Whole = Unit {0}
 Law8 set (Def i) = HoldsAt HasGoodNumbers set.types i
 Law8 set (Static i) = Unit {0}
+Law8 set (OfFunc i) = Unit {0}

@@ -1,7 +1,7 @@
 -- Law 9: no field of size at least 1 of an exact variant overlaps the tag.
 use Rattle.std.specs.Prelude.{ℕ, ◌<◌, List, Option, Some, None}
 use Rattle.std.specs.List.{All, HoldsAt}
-use Rattle.layout_model.specs.declared.breach.Item.TheVariants.{Whole, Def, Static}
+use Rattle.layout_model.specs.declared.breach.Item.TheVariants.{Whole, Def, Static, Func as OfFunc}
 use Rattle.layout_model.specs.declared.set.Set.{Set}
 use Rattle.layout_model.specs.declared.set.Field.{Field}
 use Rattle.layout_model.specs.declared.set.Tag.{Tag}
@@ -40,3 +40,4 @@ abbrev pub Law9 : Set → Law
 Law9 set Whole = Unit {0}
 Law9 set (Def i) = HoldsAt (HasTagAlone set.types) set.types i
 Law9 set (Static i) = Unit {0}
+Law9 set (OfFunc i) = Unit {0}

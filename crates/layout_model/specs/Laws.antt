@@ -13,6 +13,8 @@ use Rattle.layout_model.specs.Law8.{Law8}
 use Rattle.layout_model.specs.Law9.{Law9}
 use Rattle.layout_model.specs.Law10.{Law10}
 use Rattle.layout_model.specs.Law11.{Law11}
+use Rattle.layout_model.specs.Law12.{Law12}
+use Rattle.layout_model.specs.Law13.{Law13}
 use Rattle.layout_model.specs.Law14.{Law14}
 
 -- what a set needs to be read: laws 1 to 6
@@ -26,7 +28,7 @@ sound_laws set =
     ∷ record { number = 6; law = Law6 set }
     ∷ []
 
--- what a set needs beside that to be written and printed: laws 7 to 11 and 14
+-- what a set needs beside that to be written and printed: laws 7 to 14
 unfoldable pub further_laws : Set → List Numbered
 further_laws set =
     record { number = 7; law = Law7 set }
@@ -34,6 +36,8 @@ further_laws set =
     ∷ record { number = 9; law = Law9 set }
     ∷ record { number = 10; law = Law10 set }
     ∷ record { number = 11; law = Law11 set }
+    ∷ record { number = 12; law = Law12 set }
+    ∷ record { number = 13; law = Law13 set }
     ∷ record { number = 14; law = Law14 set }
     ∷ []
 

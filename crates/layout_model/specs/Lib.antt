@@ -16,6 +16,11 @@ pub mod Law9
 pub mod Overlap
 pub mod Law8
 pub mod Numbers
+pub mod Law12
+pub mod OpenScopes
+pub mod OperationParts
+pub mod Law13
+pub mod Counts
 pub mod Law14
 pub mod Laws
 pub mod HasSizes
@@ -34,3 +39,5 @@ pub mod Images
 pub mod Walk
 pub mod Reached
 pub mod Outcomes
+pub mod Places
+pub mod Carried

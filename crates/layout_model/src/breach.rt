@@ -6,12 +6,13 @@ use rv_io::Memory;
 use std::alloc::AllocError;
 use thiserror::Error;
 
-/// What a law is about: the whole set, or the type or static at this place.
+/// What a law is about: the whole set, or the type, static or function at this place.
 #[derive(Clone, Copy, Debug, PartialEq, Eq)]
 pub enum Item {
     Whole,
     Def(u32),
     Static(u32),
+    Func(u32),
 }
 
 /// Why a set was not found to keep the laws.
@@ -55,20 +56,22 @@ fn place_named(place: usize) -> u32
     u32::try_from(place).unwrap_or(u32::MAX)
 }
 
-/// What is found of a law, from what is found of the whole, of the types and of the statics.
+/// What is found of a law, from what is found of the whole, of the types, of the statics and of the functions.
 pub(crate) fn breach(
     law: u8,
     whole: bool,
     def: Option<usize>,
     fixed: Option<usize>,
+    func: Option<usize>,
 ) -> Result<(), CheckErr>
-    ensures { result ≡ parts law whole def fixed }
+    ensures { result ≡ parts law whole def fixed func }
 {
-    let at = match (whole, def, fixed) {
-        (false, _, _) => Item::Whole,
-        (true, Some(place), _) => Item::Def(place_named(place)),
-        (true, None, Some(place)) => Item::Static(place_named(place)),
-        (true, None, None) => return Ok(()),
+    let at = match (whole, def, fixed, func) {
+        (false, _, _, _) => Item::Whole,
+        (true, Some(place), _, _) => Item::Def(place_named(place)),
+        (true, None, Some(place), _) => Item::Static(place_named(place)),
+        (true, None, None, Some(place)) => Item::Func(place_named(place)),
+        (true, None, None, None) => return Ok(()),
     };
     Err(CheckErr::Breach { law, at })
 }

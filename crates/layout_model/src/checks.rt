@@ -10,13 +10,16 @@ ghost use Rattle.layout_model.specs.Sizes.{AreSmall};
 use crate::breach::CheckErr;
 use crate::counts::law_14;
 use crate::extents::{law_3, law_4};
+use crate::locations::law_13;
 use crate::names::law_10;
 use crate::nesting::law_2;
 use crate::numbers::law_8;
 use crate::overlap::{law_7, law_9};
-use crate::references::{law_1, law_6, law_11};
+use crate::references::{law_6, law_11};
+use crate::scopes::law_12;
 use crate::set::Set;
 use crate::tags::law_5;
+use crate::within::law_1;
 use std::alloc::Global;
 
 fn check_sound_laws(alloc: Global, set: &Set) -> Result<(), CheckErr>
@@ -49,6 +52,8 @@ fn check_further_laws(alloc: Global, set: &Set) -> Result<(), CheckErr>
     law_9(set)?;
     law_10(alloc, set)?;
     law_11(alloc, set)?;
+    law_12(alloc, set)?;
+    law_13(set)?;
     law_14(alloc, set)
 }
 
@@ -60,7 +65,7 @@ fn check_laws(alloc: Global, set: &Set) -> Result<(), CheckErr>
     check_further_laws(alloc, set)
 }
 
-/// Checks that a set is lawful: laws 1 to 11 and 14 of `docs/laws.md`.
+/// Checks that a set is lawful: laws 1 to 14 of `docs/laws.md`.
 pub fn check(alloc: Global, set: &Set) -> Result<(), CheckErr>
     requires { IsSet set.now }
 

@@ -1,127 +1,139 @@
-//! Law 14: how large a set is, and where its statics lie.
-ghost use Rattle.std.specs.Prelude.{◌≡◌, ◌-◌, ◌^◌, ◌<◌, ◌≤◌, length, min, IfOk};
+//! Law 14: how large a set is. Each count stands still at the end of its type.
+ghost use Rattle.std.specs.Prelude.{◌≡◌, ◌-◌, ◌^◌, min, IfOk};
 ghost use Rattle.std.specs.Bool.{Decides};
-ghost use Rattle.std.specs.List.{HoldsAt, sum_by};
-ghost use Rattle.layout_model.specs.Found.{IsFirst, Found};
-ghost use Rattle.layout_model.specs.Law14.{variant_parts, parts_of, addresses, lowest, AreClose, IsBounded, HasAddress, Law14};
+ghost use Rattle.std.specs.List.{sum_by};
+ghost use Rattle.layout_model.specs.Found.{Found};
+ghost use Rattle.layout_model.specs.Counts.{scope_vars, func_vars, variable_count, pieces_of, entry_ranges, var_ranges, scope_ranges, func_ranges, range_count};
+ghost use Rattle.layout_model.specs.Law14.{IsBounded, HasFewRanges, IsSmall, Law14};
 
 use crate::breach::{CheckErr, breach};
-use crate::set::{Set, Static, TypeDef, Variant};
+use crate::distances::{code_is_compact, first_without_address, statics_are_close};
+use crate::func::{Entry, Func, Loc, Scope, Var};
+use crate::parts::part_count;
+use crate::set::Set;
 use std::alloc::{AllocError, Global};
 
 const MOST_TYPES: usize = 20_000;
 
 const MOST_PARTS: usize = 40_000;
 
-const MOST_STATICS: usize = 20_000;
+const MOST_VARIABLES: usize = 20_000;
 
-/// Variants and their fields. The count stands still at the end of its type, as all here.
-fn count_variants(variants: &[Variant]) -> usize
-    ensures { result ≡ min (sum_by variant_parts variants.now) (2 ^ 64 - 1) }
+const MOST_RANGES: u128 = 1_000_000;
+
+fn count_vars(scopes: &[Scope]) -> usize
+    ensures { result ≡ min (sum_by scope_vars scopes.now) (2 ^ 64 - 1) }
 {
     let mut count: usize = 0;
-    for variant in variants {
-        let fields = variant.fields.as_slice().len();
-        count = count.saturating_add(fields.saturating_add(1));
+    for scope in scopes {
+        count = count.saturating_add(scope.vars.as_slice().len());
     }
     count
 }
 
-fn count_parts(def: &TypeDef) -> usize
-    ensures { result ≡ min (parts_of def.now) (2 ^ 64 - 1) }
-{
-    match def {
-        TypeDef::Struct { params, fields, .. } => {
-            let count = params.as_slice().len();
-            count.saturating_add(fields.as_slice().len())
-        }
-        TypeDef::CLike { cases, .. } => cases.as_slice().len(),
-        TypeDef::Enum {
-            params,
-            variants,
-            ..
-        } => {
-            let count = params.as_slice().len();
-            count.saturating_add(count_variants(variants.as_slice()))
-        }
-        _ => 0,
-    }
-}
-
-fn count_all_parts(types: &[TypeDef]) -> usize
-    ensures { result ≡ min (sum_by parts_of types.now) (2 ^ 64 - 1) }
+fn count_func_vars(funcs: &[Func]) -> usize
+    ensures { result ≡ min (sum_by func_vars funcs.now) (2 ^ 64 - 1) }
 {
     let mut count: usize = 0;
-    for def in types {
-        count = count.saturating_add(count_parts(def));
+    for func in funcs {
+        count = count.saturating_add(count_vars(func.scopes.as_slice()));
     }
     count
+}
+
+/// Statics, and the variables of functions.
+fn variable_count(set: &Set) -> usize
+    ensures { result ≡ min (variable_count set.now) (2 ^ 64 - 1) }
+{
+    let statics = set.statics.as_slice().len();
+    statics.saturating_add(count_func_vars(set.funcs.as_slice()))
 }
 
 fn is_bounded(set: &Set) -> bool
     ensures { Decides result (IsBounded set.now) }
 {
-    let types = set.types.as_slice();
-    if types.len() > MOST_TYPES || set.statics.as_slice().len() > MOST_STATICS {
-        return false;
+    set.types.as_slice().len() <= MOST_TYPES
+        && part_count(set) <= MOST_PARTS
+        && variable_count(set) <= MOST_VARIABLES
+}
+
+fn pieces_of(loc: &Loc) -> usize
+    ensures { result ≡ pieces_of loc.now }
+{
+    match loc {
+        Loc::Whole(_) => 1,
+        Loc::Pieces(pieces) => pieces.as_slice().len(),
     }
-    count_all_parts(types) <= MOST_PARTS
 }
 
-fn addresses(alloc: Global, statics: &[Static]) -> Result<Vec<u64>, AllocError>
-    ensures { IfOk result (λ v. v.items ≡ addresses statics.now) }
+fn entry_ranges(entry: &Entry) -> u128
+    ensures { result ≡ min (entry_ranges entry.now) (2 ^ 128 - 1) }
 {
-    statics.iter().filter_map(|fixed| fixed.addr).collect(alloc)
+    let len = entry.hi.saturating_sub(entry.lo);
+    let ranges = (len as u128 + 61_439) / 61_440;
+    ranges.saturating_mul(pieces_of(&entry.loc) as u128)
 }
 
-/// The lowest of some addresses, or the last address there is.
-#[tactic(auto, using(crate::proofs::Places::lowest_at_first))]
-fn lowest(places: &[u64]) -> u64
-    ensures { result ≡ lowest places.now }
+fn count_ranges(entries: &[Entry]) -> u128
+    ensures { result ≡ min (sum_by entry_ranges entries.now) (2 ^ 128 - 1) }
 {
-    let mut low = u64::MAX;
-    for place in places {
-        low = low.min(*place);
+    let mut count: u128 = 0;
+    for entry in entries {
+        count = count.saturating_add(entry_ranges(entry));
     }
-    low
+    count
 }
 
-/// Whether no address is more than 2^32 - 1 above the lowest.
-fn are_close(places: &[u64]) -> bool
-    ensures { Decides result (AreClose places.now) }
+fn count_var_ranges(vars: &[Var]) -> u128
+    ensures { result ≡ min (sum_by var_ranges vars.now) (2 ^ 128 - 1) }
 {
-    let low = lowest(places);
-    for place in places {
-        if place.saturating_sub(low) > 0xffff_ffff {
-            return false;
-        }
+    let mut count: u128 = 0;
+    for var in vars {
+        count = count.saturating_add(count_ranges(var.entries.as_slice()));
     }
-    true
+    count
 }
 
-fn holds_of_whole(set: &Set, places: &[u64]) -> bool
-    ensures { Decides result (IsBounded set.now × AreClose places.now) }
+fn count_scope_ranges(scopes: &[Scope]) -> u128
+    ensures { result ≡ min (sum_by scope_ranges scopes.now) (2 ^ 128 - 1) }
 {
-    is_bounded(set) && are_close(places)
-}
-
-fn first_without_address(statics: &[Static]) -> Option<usize>
-    ensures { IsFirst (HoldsAt HasAddress statics.now) (length statics.now) result }
-{
-    for (i, fixed) in statics.iter().enumerate() {
-        if fixed.addr.is_none() {
-            return Some(i);
-        }
+    let mut count: u128 = 0;
+    for scope in scopes {
+        count = count.saturating_add(count_var_ranges(scope.vars.as_slice()));
     }
-    None
+    count
 }
 
-/// Law 14: the set is bounded, and statics have addresses, which are close together.
+fn range_count(funcs: &[Func]) -> u128
+    ensures { result ≡ min (sum_by func_ranges funcs.now) (2 ^ 128 - 1) }
+{
+    let mut count: u128 = 0;
+    for func in funcs {
+        count = count.saturating_add(count_scope_ranges(func.scopes.as_slice()));
+    }
+    count
+}
+
+fn has_few_ranges(set: &Set) -> bool
+    ensures { Decides result (HasFewRanges set.now) }
+{
+    range_count(set.funcs.as_slice()) <= MOST_RANGES
+}
+
+fn is_small(alloc: Global, set: &Set) -> Result<bool, AllocError>
+    ensures { IfOk result (λ small. Decides small (IsSmall set.now)) }
+{
+    let few = is_bounded(set) && has_few_ranges(set);
+    let close = statics_are_close(alloc, set.statics.as_slice())?;
+    let compact = code_is_compact(alloc, set.funcs.as_slice())?;
+    Ok(few && close && compact)
+}
+
+/// Law 14: the set is small, and statics have addresses.
 pub(crate) fn law_14(alloc: Global, set: &Set) -> Result<(), CheckErr>
     ensures { Found set.now 14 (Law14 set.now) result }
 {
-    let statics = set.statics.as_slice();
-    let places = addresses(alloc, statics)?;
-    let whole = holds_of_whole(set, places.as_slice());
-    breach(14, whole, None, first_without_address(statics))
+    let whole = is_small(alloc, set)?;
+    let fixed = first_without_address(set.statics.as_slice());
+    breach(14, whole, None, fixed, None)
 }

@@ -27,7 +27,13 @@ fn first_3(types: &[TypeDef]) -> Option<usize>
 pub(crate) fn law_3(set: &Set) -> Result<(), CheckErr>
     ensures { Found set.now 3 (Law3 set.now) result }
 {
-    breach(3, set.target.ptr == 8, first_3(set.types.as_slice()), None)
+    breach(
+        3,
+        set.target.ptr == 8,
+        first_3(set.types.as_slice()),
+        None,
+        None,
+    )
 }
 
 fn ends_within(types: &[TypeDef], most: u32, field: &Field) -> bool
@@ -101,5 +107,5 @@ fn first_4(types: &[TypeDef]) -> Option<usize>
 pub(crate) fn law_4(set: &Set) -> Result<(), CheckErr>
     ensures { Found set.now 4 (Law4 set.now) result }
 {
-    breach(4, true, first_4(set.types.as_slice()), None)
+    breach(4, true, first_4(set.types.as_slice()), None, None)
 }

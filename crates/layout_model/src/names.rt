@@ -1,15 +1,17 @@
-//! Law 10: names of types and statics.
-ghost use Rattle.std.specs.Prelude.{◌≡◌, IfOk, IfSome, length, option_copied};
+//! Law 10: names of types, statics and functions.
+ghost use Rattle.std.specs.Prelude.{◌≡◌, IfOk, IfSome, IsTrue, length, option_copied};
 ghost use Rattle.std.specs.Bool.{Decides};
 ghost use Rattle.std.specs.List.{HoldsAt};
 ghost use Rattle.layout_model.specs.Found.{IsFirst, Found};
 ghost use Rattle.layout_model.specs.DerivedNames.{IsShort};
 ghost use Rattle.layout_model.specs.Leaps.{name_fits, IsSettled, rust_firsts, cv_firsts};
-ghost use Rattle.layout_model.specs.Law10.{IsGoodName, HasOwnShape, HasGoodName, IsNewName, HasDerivedName, HasPathName, AreNamed, IsSet, Law10};
+ghost use Rattle.layout_model.specs.Law10.{IsGoodName, HasOwnShape, HasGoodName, IsNewName, HasDerivedName, HasPathName, IsNamedByPath, AreNamed, IsSet, Law10};
+ghost use Rattle.layout_model.specs.NameShapes.{is_path};
 ghost use Rattle.layout_model.specs.Told.{IsNewText};
 
 use crate::breach::{CheckErr, breach, earlier};
 use crate::cv_lengths::cv_firsts;
+use crate::func::Func;
 use crate::leaps::{Leap, settled};
 use crate::rust_lengths::rust_firsts;
 use crate::set::{Set, Static, TypeDef};
@@ -116,18 +118,29 @@ fn first_underived(alloc: Global, types: &[TypeDef]) -> Result<Option<usize>, Me
     Ok(first_misfit(types, rust.as_slice(), cv.as_slice()))
 }
 
-fn has_path_name(alloc: Global, fixed: &Static) -> Result<bool, Memory>
-    ensures { IfOk result (λ kept. Decides kept (HasPathName fixed.now)) }
+fn is_good_path(alloc: Global, name: &Name) -> Result<bool, Memory>
+    ensures { IfOk result (λ good. Decides good (IsGoodName name.now × IsTrue (is_path name.now))) }
 {
-    let good = is_good_name(alloc, &fixed.name)?;
-    Ok(good && is_path(&fixed.name))
+    let good = is_good_name(alloc, name)?;
+    Ok(good && is_path(name))
 }
 
 fn first_static_10(alloc: Global, statics: &[Static]) -> Result<Option<usize>, Memory>
     ensures { IfOk result (IsFirst (HoldsAt HasPathName statics.now) (length statics.now)) }
 {
     for (i, fixed) in statics.iter().enumerate() {
-        if !has_path_name(alloc, fixed)? {
+        if !is_good_path(alloc, &fixed.name)? {
+            return Ok(Some(i));
+        }
+    }
+    Ok(None)
+}
+
+fn first_func_10(alloc: Global, funcs: &[Func]) -> Result<Option<usize>, Memory>
+    ensures { IfOk result (IsFirst (HoldsAt IsNamedByPath funcs.now) (length funcs.now)) }
+{
+    for (i, func) in funcs.iter().enumerate() {
+        if !is_good_path(alloc, &func.name)? {
             return Ok(Some(i));
         }
     }
@@ -163,5 +176,6 @@ pub(crate) fn law_10(alloc: Global, set: &Set) -> Result<(), CheckErr>
 {
     let def = first_def_10(alloc, set.types.as_slice())?;
     let fixed = first_static_10(alloc, set.statics.as_slice())?;
-    breach(10, true, def, fixed)
+    let func = first_func_10(alloc, set.funcs.as_slice())?;
+    breach(10, true, def, fixed, func)
 }

@@ -119,5 +119,5 @@ pub(crate) fn law_2(alloc: Global, set: &Set) -> Result<(), CheckErr>
     ensures { Found set.now 2 (Law2 set.now) result }
 {
     let def = first_2(alloc, set.types.as_slice())?;
-    breach(2, true, def, None)
+    breach(2, true, def, None, None)
 }

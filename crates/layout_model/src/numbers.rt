@@ -220,5 +220,5 @@ pub(crate) fn law_8(alloc: Global, set: &Set) -> Result<(), CheckErr>
     ensures { Found set.now 8 (Law8 set.now) result }
 {
     let def = first_8(alloc, set.types.as_slice())?;
-    breach(8, true, def, None)
+    breach(8, true, def, None, None)
 }

@@ -1,7 +1,8 @@
 //! What is told of a variable.
 use rust_value::Val;
 
-/// What is told of a variable. The first that holds, in the order `TooLarge`, `Unavailable`, `Value`, `Invalid`.
+/// What is told of a variable. The first that holds: `Unavailable` where it has no place, and then, in this order, `TooLarge`,
+/// `Unavailable` for its bytes, `Value`, `Invalid`.
 #[derive(Debug, Drop)]
 pub enum Outcome {
     /// It has this value.

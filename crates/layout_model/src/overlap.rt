@@ -109,7 +109,7 @@ pub(crate) fn law_7(alloc: Global, set: &Set) -> Result<(), CheckErr>
     ensures { Found set.now 7 (Law7 set.now) result }
 {
     let def = first_7(alloc, set.types.as_slice())?;
-    breach(7, true, def, None)
+    breach(7, true, def, None, None)
 }
 
 /// Whether the field has no byte, or none of the tag's.
@@ -188,5 +188,5 @@ pub(crate) fn law_9(set: &Set) -> Result<(), CheckErr>
     requires { AreSmall set.now.types }
     ensures { Found set.now 9 (Law9 set.now) result }
 {
-    breach(9, true, first_9(set.types.as_slice()), None)
+    breach(9, true, first_9(set.types.as_slice()), None, None)
 }

@@ -1,16 +1,15 @@
-//! The types that a type refers to, and the laws on them: laws 1, 6 and 11.
+//! The types that a type refers to, and laws 6 and 11 on them.
 ghost use Rattle.std.specs.Prelude.{◌≡◌, ◌++◌, OnOk, IfOk, length};
 ghost use Rattle.std.specs.Bool.{Decides};
 ghost use Rattle.std.specs.List.{All, HoldsAt};
 ghost use Rattle.layout_model.specs.References.{references, param_types, field_types, variant_types};
 ghost use Rattle.layout_model.specs.Found.{IsFirst, Found};
-ghost use Rattle.layout_model.specs.Law1.{IsWithin, RefersWithin, HasTypeWithin, Law1};
 ghost use Rattle.layout_model.specs.Law6.{IsThin, IsThinToBytes, HasThinPointers, Law6};
 ghost use Rattle.layout_model.specs.Law11.{IsNameless, StandsBefore, StandsAfterNameless, Law11};
 
 use crate::breach::{CheckErr, breach};
 use crate::primitive::Primitive;
-use crate::set::{Field, Param, Set, Static, TypeDef, TypeRef, Variant};
+use crate::set::{Field, Param, Set, TypeDef, TypeRef, Variant};
 use std::alloc::{AllocError, Global};
 
 fn add_params(found: &mut Vec<TypeRef>, params: &[Param]) -> Result<(), AllocError>
@@ -41,7 +40,7 @@ fn add_variants(found: &mut Vec<TypeRef>, variants: &[Variant]) -> Result<(), Al
 }
 
 /// All types that a type refers to.
-fn references(alloc: Global, def: &TypeDef) -> Result<Vec<TypeRef>, AllocError>
+pub(crate) fn references(alloc: Global, def: &TypeDef) -> Result<Vec<TypeRef>, AllocError>
     ensures { IfOk result (λ found. found.items ≡ references def.now) }
 {
     let mut found = Vec::new(alloc);
@@ -68,65 +67,6 @@ fn references(alloc: Global, def: &TypeDef) -> Result<Vec<TypeRef>, AllocError>
         TypeDef::FnPtr | TypeDef::CLike { .. } | TypeDef::Bytes { .. } => {}
     }
     Ok(found)
-}
-
-fn is_within(count: usize, ty: TypeRef) -> bool
-    ensures { Decides result (IsWithin count ty) }
-{
-    match ty {
-        TypeRef::Prim(_) => true,
-        TypeRef::User(i) => (i as usize) < count,
-    }
-}
-
-fn are_within(count: usize, types: &[TypeRef]) -> bool
-    ensures { Decides result (All (IsWithin count) types.now) }
-{
-    for ty in types {
-        if !is_within(count, *ty) {
-            return false;
-        }
-    }
-    true
-}
-
-fn refers_within(alloc: Global, count: usize, def: &TypeDef) -> Result<bool, AllocError>
-    ensures { IfOk result (λ kept. Decides kept (RefersWithin count def.now)) }
-{
-    let found = references(alloc, def)?;
-    Ok(are_within(count, found.as_slice()))
-}
-
-fn first_def_1(alloc: Global, count: usize, types: &[TypeDef]) -> Result<Option<usize>, AllocError>
-    ensures { IfOk result (IsFirst (HoldsAt (RefersWithin count) types.now) (length types.now)) }
-{
-    for (i, def) in types.iter().enumerate() {
-        if !refers_within(alloc, count, def)? {
-            return Ok(Some(i));
-        }
-    }
-    Ok(None)
-}
-
-fn first_static_1(count: usize, statics: &[Static]) -> Option<usize>
-    ensures { IsFirst (HoldsAt (HasTypeWithin count) statics.now) (length statics.now) result }
-{
-    for (i, fixed) in statics.iter().enumerate() {
-        if !is_within(count, fixed.ty) {
-            return Some(i);
-        }
-    }
-    None
-}
-
-/// Law 1: each reference is within the types.
-pub(crate) fn law_1(alloc: Global, set: &Set) -> Result<(), CheckErr>
-    ensures { Found set.now 1 (Law1 set.now) result }
-{
-    let types = set.types.as_slice();
-    let def = first_def_1(alloc, types.len(), types)?;
-    let fixed = first_static_1(types.len(), set.statics.as_slice());
-    breach(1, true, def, fixed)
 }
 
 fn is_thin(types: &[TypeDef], ty: TypeRef) -> bool
@@ -183,7 +123,7 @@ fn first_6(types: &[TypeDef]) -> Option<usize>
 pub(crate) fn law_6(set: &Set) -> Result<(), CheckErr>
     ensures { Found set.now 6 (Law6 set.now) result }
 {
-    breach(6, true, first_6(set.types.as_slice()), None)
+    breach(6, true, first_6(set.types.as_slice()), None, None)
 }
 
 fn is_nameless(def: &TypeDef) -> bool
@@ -247,5 +187,5 @@ pub(crate) fn law_11(alloc: Global, set: &Set) -> Result<(), CheckErr>
     ensures { Found set.now 11 (Law11 set.now) result }
 {
     let def = first_11(alloc, set.types.as_slice())?;
-    breach(11, true, def, None)
+    breach(11, true, def, None, None)
 }

@@ -1,4 +1,5 @@
-//! Sets of types and statics.
+//! Sets of types, statics and functions.
+use crate::func::Func;
 use crate::primitive::Primitive;
 use rv_io::List;
 use type_names::{Name, PtrKind, Word};
@@ -135,10 +136,11 @@ pub struct Static {
     pub addr: Option<u64>,
 }
 
-/// Types, which are known by their places, and statics.
+/// Types, which are known by their places, statics, and functions.
 #[derive(Drop)]
 pub struct Set {
     pub target: Target,
     pub types: List<TypeDef>,
     pub statics: List<Static>,
+    pub funcs: List<Func>,
 }

@@ -144,5 +144,5 @@ fn first_5(types: &[TypeDef]) -> Option<usize>
 pub(crate) fn law_5(set: &Set) -> Result<(), CheckErr>
     ensures { Found set.now 5 (Law5 set.now) result }
 {
-    breach(5, true, first_5(set.types.as_slice()), None)
+    breach(5, true, first_5(set.types.as_slice()), None, None)
 }

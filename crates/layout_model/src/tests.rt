@@ -3,9 +3,16 @@ ghost use Rattle.std.specs.Prelude.{IsTrue, IfOk, length};
 ghost use Rattle.layout_model.specs.Law1.{IsWithin};
 ghost use Rattle.layout_model.specs.Law10.{IsSet};
 
+mod cv_entries;
+mod cv_parts;
 mod drafts;
+mod func_drafts;
+mod func_laws;
 mod honest;
+mod large;
 mod laws;
+mod locations;
+mod scopes;
 
 use super::*;
 use drafts::{Draft, Fixed, REF, U8, UNIT, set_of};

@@ -12,3 +12,15 @@ pub mod ReadLines
 pub mod RegisterLists
 pub mod ReadFiles
 pub mod SpelledFiles
+pub mod Lowest
+pub mod WordFaults
+pub mod RegisterFaults
+pub mod MemoryFaults
+pub mod LineFaults
+pub mod Stages
+pub mod Kept
+pub mod StepFaults
+pub mod Reached
+pub mod FileFaults
+pub mod Faultless
+pub mod EveryFile

@@ -39,7 +39,7 @@ line_words r line s e k =
     (λ u e1. absurd (cc))
 
 -- the words of a line, put together
-whole : (line : List ℕ) (ws : List (List ℕ)) → words line ≡ ws → line ≡ join_with_byte 32 ws
+pub whole : (line : List ℕ) (ws : List (List ℕ)) → words line ≡ ws → line ≡ join_with_byte 32 ws
 whole line ws e = sym (join_with_byte-slice_split 32 line) ∙ ap (join_with_byte 32) e
 
 pub same_ok : {A : Type 0} (x y : A) → ◌≡◌ {A = Result A SnapErr} (Ok x) (Ok y) → x ≡ y
@@ -99,7 +99,7 @@ fits_holds reg n l =
       | false ↦ λ h. (h, refl)
     ] l
 
-fitting_says : (reg : Reg) (o : Option ℕ) (n : ℕ) → fitting reg o ≡ Some n → (o ≡ Some n) × (fits reg n ≡ true)
+pub fitting_says : (reg : Reg) (o : Option ℕ) (n : ℕ) → fitting reg o ≡ Some n → (o ≡ Some n) × (fits reg n ≡ true)
 fitting_says reg None n e = absurd (cc)
 fitting_says reg (Some m) n e =
     cond_then (fits reg m) (Some m) None (Some n) e

@@ -20,7 +20,7 @@ pub with_some : (runs : List Run) (at : ℕ) (bytes : List ℕ) → 0 < length b
 with_some runs at [] l = absurd (omega arith)
 with_some runs at (b ∷ bytes) l = refl
 
-some_runs : (runs : List Run) (new : Run) → 0 < length (with_run runs new)
+pub some_runs : (runs : List Run) (new : Run) → 0 < length (with_run runs new)
 some_runs [] new = omega arith
 some_runs (run ∷ []) new =
     let both : List Run = record { at = run.at; bytes = run.bytes ++ new.bytes } ∷ [] in

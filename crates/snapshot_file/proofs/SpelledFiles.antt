@@ -57,11 +57,11 @@ name_plain = plain_by_test (codes "rdbg-snapshot") refl
 one_plain : ArePlain (codes "1")
 one_plain = plain_by_test (codes "1") refl
 
-low_address : (g : Run) → 0 < length g.bytes → end_of g ≤ 2 ^ 64 → g.at < 2 ^ 64
+pub low_address : (g : Run) → 0 < length g.bytes → end_of g ≤ 2 ^ 64 → g.at < 2 ^ 64
 low_address g some end = omega arith
 
 -- a line of memory has three plain words
-memory_words : (line : List ℕ) (g : Run) (m : IsMemoryLine line g) → g.at < 2 ^ 64 → words line ≡ codes "mem" ∷ hex_text g.at ∷ m.digits ∷ []
+pub memory_words : (line : List ℕ) (g : Run) (m : IsMemoryLine line g) → g.at < 2 ^ 64 → words line ≡ codes "mem" ∷ hex_text g.at ∷ m.digits ∷ []
 memory_words line g m l =
     let rest = hex_text g.at ++ 32 ∷ m.digits in
     parts_cut 32 line (codes "mem") rest (record { text = m.text; first = plain_lacks_space (codes "mem") mem_plain })
@@ -182,13 +182,13 @@ number_ascii first n p l = ascii_more first (hex_text n) (plain_ascii first p) (
 number_lacks_lf : (first : List ℕ) (n : ℕ) → ArePlain first → n < 2 ^ 64 → Lacks 10 (first ++ 32 ∷ hex_text n)
 number_lacks_lf first n p l = lf_more first (hex_text n) (plain_lacks_lf first p) (plain_lacks_lf (hex_text n) (plain_hex n l))
 
-abbrev after_version : Reading
+abbrev pub after_version : Reading
 after_version = record start { stage = stages.Version; line = after 1 }
 
 abbrev after_pc : ℕ → Reading
 after_pc n = record { stage = stages.Pc; line = after (after 1); snapshot = record { pc = n; cfa = None; regs = no_registers; mem = [] } }
 
-version_steps : step start (codes "rdbg-snapshot 1") ≡ Ok after_version
+pub version_steps : step start (codes "rdbg-snapshot 1") ≡ Ok after_version
 version_steps =
     line_steps start after_version (codes "rdbg-snapshot 1") (codes "rdbg-snapshot") (codes "1" ∷ [])
     (ascii_more (codes "rdbg-snapshot") (codes "1") (plain_ascii (codes "rdbg-snapshot") name_plain) (plain_ascii (codes "1") one_plain))

@@ -3,3 +3,5 @@ pub mod Registers
 pub mod Spans
 pub mod Reading
 pub mod Snapshots
+pub mod Faults
+pub mod Claims

@@ -1,4 +1,5 @@
--- What the lines of a snapshot file say, or the first line that breaks a rule.
+-- What the lines of a snapshot file say, or the first line that breaks a rule, one line after another. Private to the steps of
+-- reading: what they come to is in `Claims.antt`.
 use Rattle.std.specs.Prelude.{◌≡◌, ℕ, Bool, true, ◌||◌, ◌+◌, ◌-◌, ◌^◌, nat_lt, ◌==◌, min, List, [], ◌∷◌, length, Option, Some, None, Result, Ok, Err, if◌then◌else◌, codes}
 use Rattle.std.specs.Str.{bytes_eq, is_utf8}
 use Rattle.hex.specs.Hex.{decode_of}

@@ -1,16 +1,14 @@
 //! Whole snapshot files.
-ghost use Rattle.std.specs.Prelude.{IfOk};
-ghost use Rattle.snapshot_file.specs.Reading.{Gives, snapshot_of};
-ghost use Rattle.snapshot_file.specs.Snapshots.{Spells};
+ghost use Rattle.snapshot_file.specs.Claims.{IsReading};
 
 use crate::fault::SnapErr;
 use crate::snapshot::{Snapshot, read_snapshot};
 use std::alloc::Global;
 
-/// The snapshot that the file spells, or its first fault.
+/// The snapshot that the file spells, or its first fault: the first line that breaks a rule with the lowest rule that it
+/// breaks, or the first line of memory that overlaps. Lines are counted from 1. Takes memory.
 pub fn read(alloc: Global, bytes: &[u8]) -> Result<Snapshot, SnapErr>
-    ensures spelled { IfOk result (λ s. Spells bytes.now s) }
-    ensures exact { Gives result (snapshot_of bytes.now) }
+    ensures { IsReading bytes.now result }
 {
     read_snapshot(alloc, bytes)
 }

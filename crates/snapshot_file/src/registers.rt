@@ -122,7 +122,8 @@ impl Reg {
         }
     }
 
-    fn name(self) -> &'static [u8]
+    /// The name of the register, in lower case. Takes no memory.
+    pub fn name(self) -> &'static [u8]
         ensures { result.now ≡ name_of self }
     {
         match self {
@@ -175,8 +176,8 @@ fn named_in(regs: &[Reg], word: &[u8]) -> Option<Reg>
     None
 }
 
-/// The register that the word names.
-pub(crate) fn reg_of(word: &[u8]) -> Option<Reg>
+/// The register that the word names; None exactly where it names none. Takes no memory.
+pub fn reg_of(word: &[u8]) -> Option<Reg>
     ensures { result ≡ reg_of word.now }
 {
     named_in(&ALL, word)

@@ -3,7 +3,7 @@ use crate::{Mem, Reg, SnapErr, Snapshot, read};
 use std::test::Fail;
 
 /// The lines behind that of the version, and the line and the rule that are told.
-const FAULTS: [(&[u8], u32, u8); 27] = [
+const FAULTS: [(&[u8], u32, u8); 30] = [
     (b"", 2, 2),
     (b"pc 0x0", 2, 1),
     (b"pc \xff\n", 2, 1),
@@ -31,10 +31,13 @@ const FAULTS: [(&[u8], u32, u8); 27] = [
         3,
         5,
     ),
+    (b"pc 0x0\nreg eax 0x0\n", 3, 5),
     (b"pc 0x0\nreg rdx 0x0\nreg rax 0x0\n", 4, 5),
+    (b"pc 0x0\nreg rdx 0x0\nreg rax 0x10000000000000000\n", 4, 4),
     (b"pc 0x0\nreg rdx 0x0\nreg rdx 0x0\n", 4, 5),
     (b"pc 0x0\nmem 0x0\n", 3, 3),
     (b"pc 0x0\nmem 0 00\n", 3, 4),
+    (b"pc 0x0\nmem 0 0g\n", 3, 4),
     (b"pc 0x0\nmem 0x0 \n", 3, 6),
     (b"pc 0x0\nmem 0x0 0\n", 3, 6),
     (b"pc 0x0\nmem 0x0 0g\n", 3, 6),
@@ -52,6 +55,27 @@ fn the_first_line_that_breaks_a_rule_is_told(rt: HostRuntime) -> Result<(), Fail
                 assert_eq!(rt; r, *rule);
             }
             _ => assert!(rt; false, "line {line}, rule {rule}"),
+        }
+    }
+    Ok(())
+}
+
+#[test]
+fn a_first_line_at_fault_is_told(rt: HostRuntime) -> Result<(), Fail> {
+    let told = [
+        (b"".as_slice(), 2),
+        (b"pc 0x0\n".as_slice(), 2),
+        (b"rdbg-snapshot\n".as_slice(), 3),
+        (b"rdbg-snapshot 2\n".as_slice(), 4),
+        (b"rdbg-snapshot 1".as_slice(), 1),
+    ];
+    for (file, rule) in told.iter() {
+        match read(rt.alloc(), file) {
+            Err(SnapErr::BadLine { line: l, rule: r }) => {
+                assert_eq!(rt; l, 1);
+                assert_eq!(rt; r, *rule);
+            }
+            _ => assert!(rt; false, "rule {rule}"),
         }
     }
     Ok(())

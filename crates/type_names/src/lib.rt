@@ -1,6 +1,7 @@
 //! Names of Rust types, in the spelling of Rust and in that of CodeView.
 #![tactic(auto)]
 
+mod copy;
 mod cv;
 mod cv_form;
 mod cv_reader;

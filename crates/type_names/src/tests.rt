@@ -3,6 +3,8 @@ use crate::{Name, NameErr, Word, cv_spelling, one_cv_name, read_cv, read_rust, r
 use rv_io::{Buf, Memory};
 use std::alloc::Global;
 
+mod copies;
+
 /// Reads both texts, and compares what both spellings of each name are with these texts.
 fn is_spelled(alloc: Global, rust: &[u8], cv: &[u8]) -> bool {
     match (read_rust(alloc, rust), read_cv(alloc, cv)) {

@@ -1,9 +1,11 @@
 //! Words, of which names are made.
-ghost use Rattle.std.specs.Prelude.{◌≡◌, ◌-◌, ◌||◌, suc, nat_lt, if◌then◌else◌, true, false, Some, None, Ok, Err};
+ghost use Rattle.std.specs.Prelude.{◌≡◌, ◌-◌, ◌||◌, suc, nat_lt, if◌then◌else◌, true, false, Some, None, Ok, Err, IfOk};
 ghost use Rattle.type_names.specs.Words.{is_between, is_digit, is_letter, wide_lead, lead_of, IsWord};
 ghost use Rattle.type_names.specs.Reading.{if_some};
 ghost use Rattle.type_names.specs.Scan.{StepsOver, WordEnd};
 
+use rv_io::Memory;
+use std::alloc::Global;
 use std::marker::Model;
 
 /// What follows the first byte of a character: so many bytes, the next of them from `low` to `high`.
@@ -57,6 +59,15 @@ impl Word {
         ensures { result.now ≡ self.now }
     {
         self.bytes.as_slice()
+    }
+
+    /// A copy of the word.
+    pub fn copy(&self, alloc: Global) -> Result<Word, Memory>
+        ensures { IfOk result (λ word. word ≡ self.now) }
+    {
+        Ok(Word {
+            bytes: Vec::from_slice(alloc, self.bytes.as_slice())?,
+        })
     }
 }
 

@@ -1,5 +1,5 @@
 -- The walk sees a value exactly where the part is its image.
-use Rattle.std.proofs.Common.{◌≡◌, ◌≢◌, ℕ, zero, suc, ◌+◌, ◌&&◌, Bool, true, false, cond, List, [], ◌∷◌, map, Option, Some, None, refl, sym, ap, subst, ◌∙◌, arith}
+use Rattle.std.proofs.Common.{◌≡◌, ◌≢◌, ℕ, zero, suc, ◌&&◌, Bool, true, false, cond, List, [], ◌∷◌, map, Option, Some, None, refl, sym, ap, subst, ◌∙◌, arith}
 use Rattle.std.specs.Prelude.{slice_get}
 use Rattle.std.specs.Str.{is_utf8}
 use Rattle.snapshot_file.specs.Memory.{items_at, bytes_of}
@@ -7,7 +7,6 @@ use Rattle.type_names.specs.declared.name.PtrKind.{PtrKind}
 use Rattle.rust_value.specs.declared.value.Val.{Val}
 use Rattle.rust_value.specs.declared.value.Val.TheVariants as vals
 use Rattle.rust_value.specs.declared.value.Part.{Part}
-use Rattle.layout_model.specs.declared.primitive.Primitive.{Primitive}
 use Rattle.layout_model.specs.declared.set.TypeRef.{TypeRef}
 use Rattle.layout_model.specs.declared.set.TypeRef.TheVariants.{Prim, User}
 use Rattle.layout_model.specs.declared.set.TypeDef.{TypeDef}
@@ -21,7 +20,7 @@ use Rattle.layout_model.specs.Choice.{chosen}
 use Rattle.layout_model.specs.Scalars.{prim_value}
 use Rattle.layout_model.specs.Pointers.{may_point, may_span, below, pointee}
 use Rattle.layout_model.specs.Contexts.{Items, Context, number_at, tag_number, case_of, field_part, element_part, target_part, far_part, shown_of}
-use Rattle.layout_model.specs.Images.{Paired, AreFields, AreElements, IsContent, IsFar, IsText, IsStruct, IsArray, IsThinPointer, IsSlicePointer, IsTextPointer, IsDynPointer, IsFunctionPointer, IsCLike, IsEnum, IsBytes, IsOf, IsLayer, IsImageWithin}
+use Rattle.layout_model.specs.Images.{Paired, AreFields, AreElements, IsContent, IsFar, IsText, IsSlicePointer, IsOf, IsLayer, IsImageWithin}
 use Rattle.layout_model.specs.Walk.{valued, scalar_at, allowed, function_value, case_name, case_value, go_field, go_elements, go_content, go_far, go_thin, go_slice, go_text, go_str, go_dyn, go_variant, go_enum, go_def, go_layer, walk}
 use Rattle.value_reader.specs.declared.seen.Seen.{Seen}
 use Rattle.value_reader.specs.declared.seen.Seen.TheVariants.{Good, Bad, Gone}

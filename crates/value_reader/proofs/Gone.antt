@@ -10,7 +10,7 @@ use Rattle.value_reader.specs.declared.seen.Seen.{Seen}
 use Rattle.value_reader.specs.declared.seen.Seen.TheVariants.{Good, Bad, Gone}
 use Rattle.value_reader.specs.Seeing.{seen_map, both}
 use Rattle.value_reader.specs.Lacking.{is_gone}
-use Rattle.value_reader.specs.Sees.{named, or_gone, checked_text, text_seen, parts_seen, all_seen, content_seen, sighting}
+use Rattle.value_reader.specs.Sees.{named, or_gone, text_seen, parts_seen, all_seen, content_seen, sighting}
 
 gone_map : {A B : Type 0} (f : A → B) (s : Seen A) → is_gone (seen_map f s) ≡ is_gone s
 gone_map f (Good a) = refl

@@ -1,5 +1,5 @@
 -- One level of what is seen and counted.
-use Rattle.std.proofs.Common.{◌≡◌, ℕ, zero, suc, ◌+◌, ◌-◌, ◌<◌, ◌≤◌, Bool, true, false, ◌&&◌, Option, Some, None, refl, arith}
+use Rattle.std.proofs.Common.{◌≡◌, ℕ, zero, suc, ◌-◌, ◌<◌, ◌≤◌, Bool, true, false, ◌&&◌, Option, Some, None, refl, arith}
 use Rattle.type_names.specs.declared.name.PtrKind.{PtrKind}
 use Rattle.layout_model.specs.Pointers.{may_point}
 use Rattle.layout_model.specs.declared.set.TypeRef.{TypeRef}

@@ -5,3 +5,10 @@ pub mod Exact
 pub mod Gone
 pub mod Whole
 pub mod Texts
+pub mod Joined
+pub mod ChunkItems
+pub mod PieceSteps
+pub mod Contained
+pub mod Enough
+pub mod NodeCounts
+pub mod Filled

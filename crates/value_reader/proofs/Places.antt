@@ -1,11 +1,12 @@
 -- Parts of parts.
-use Rattle.std.proofs.Common.{◌++◌, append_assoc, get_or, add-one, ◌≡◌, ◌∙◌, sym, ap, refl, ℕ, zero, suc, ◌+◌, ◌-◌, ◌<◌, ◌≤◌, ◌^◌, ◌*◌, min, List, [], ◌∷◌, length, take, drop, Option, Some, None, arith, ◌⊎◌, inl, inr, length-drop, add-zero, false, cond, nat_lt, lit<}
+use Rattle.std.proofs.Common.{◌++◌, append_assoc, get_or, add-one, ◌≡◌, ◌∙◌, sym, ap, refl, ℕ, zero, suc, ◌+◌, ◌-◌, ◌<◌, ◌≤◌, ◌^◌, ◌*◌, min, List, [], ◌∷◌, length, take, drop, Option, Some, None, arith, ◌⊎◌, inl, inr, length-drop, add-zero, false, nat_lt, lit<}
 use Rattle.std.proofs.Math.Nat.{pow-le-pow_right, pow-succ'}
 use Rattle.std.specs.Option.{option_map}
 use Rattle.std.proofs.Math.Seq.{drop-cons}
 use Rattle.layout_model.specs.Contexts.{Items}
-use Rattle.std.proofs.lemmas.List.{take_rest, take_min, take_all, length-take}
+use Rattle.std.proofs.lemmas.List.{take_min, length-take, length-map, take-map, drop-map}
 use Rattle.snapshot_file.specs.Memory.{Run, item_at, items_at, sub, number, bytes_of}
+use Rattle.image_view.specs.Places.{Place, part_of}
 
 drop_past : {A : Type 0} (xs : List A) (n : ℕ) → length xs ≤ n → drop n xs ≡ []
 drop_past [] zero h = refl
@@ -27,6 +28,16 @@ pub sub_clamped : {A : Type 0} (xs : List A) (off n : ℕ) → take (min n (leng
 sub_clamped xs off n =
     let e : length xs - min off (length xs) ≡ length xs - off = omega arith in
     rw (drop_min xs off (le_either off (length xs)), e, ← length-drop off xs) (take_min n (drop off xs))
+
+-- a part of places
+pub sub-part : (ps : List Place) (off n : ℕ) → part_of (take n (drop off ps)) ≡ sub (part_of ps) off n
+sub-part ps off n = sym (take-map (λ (p : Place). p.item) n (drop off ps)) ∙ ap (take n) (sym (drop-map (λ (p : Place). p.item) off ps))
+
+pub part_clamped : (ps : List Place) (off n : ℕ) → part_of (take (min n (length ps - min off (length ps))) (drop (min off (length ps)) ps)) ≡ sub (part_of ps) off n
+part_clamped ps off n = ap part_of (sub_clamped ps off n) ∙ sub-part ps off n
+
+pub length-part : (ps : List Place) → length (part_of ps) ≡ length ps
+length-part ps = length-map ps (λ (p : Place). p.item)
 
 pub length-items : (memory : List Run) (a n : ℕ) → length (items_at memory a n) ≡ n
 length-items memory a zero = refl
@@ -82,6 +93,17 @@ byte_step p i b found all l e h =
     let x = get_or p i None in
     let step : drop i p ≡ x ∷ drop (i + 1) p = drop-cons p i None l ∙ ap (λ n. x ∷ drop n p) (sym (add-one i)) in
     byte_head x (drop (i + 1) p) b found all (e ∙ ap (λ q. number (take 1 q)) step) (ap (λ q. option_map (λ bytes. found ++ bytes) (bytes_of q)) (sym step) ∙ h)
+
+byte_none : (item : Option ℕ) (rest : Items) → None ≡ number (item ∷ []) → bytes_of (item ∷ rest) ≡ None
+byte_none None rest e = refl
+byte_none (Some x) rest e = absurd (cc)
+
+-- a part with a missing item has no bytes
+pub byte_missing : (p : Items) (i : ℕ) (found : List ℕ) (all : Option (List ℕ)) → i < length p → None ≡ number (sub p i 1) → option_map (λ bytes. found ++ bytes) (bytes_of (drop i p)) ≡ all → None ≡ all
+byte_missing p i found all l e h =
+    let x = get_or p i None in
+    let step : drop i p ≡ x ∷ drop (i + 1) p = drop-cons p i None l ∙ ap (λ n. x ∷ drop n p) (sym (add-one i)) in
+    sym (ap (option_map (λ bytes. found ++ bytes)) (ap bytes_of step ∙ byte_none x (drop (i + 1) p) (e ∙ ap (λ q. number (take 1 q)) step))) ∙ h
 
 pub length-sub : (p : Items) (off n : ℕ) → length (sub p off n) ≤ n
 length-sub p off n = let e : length (take n (drop off p)) ≡ min n (length (drop off p)) = length-take n (drop off p) in omega (arith, e)

@@ -1,5 +1,5 @@
 -- One more turn of a loop that sees and counts.
-use Rattle.std.proofs.Common.{◌≡◌, ℕ, suc, ◌+◌, ◌-◌, ◌<◌, List, [], ◌∷◌, ◌++◌, map, sym, ap, ◌∙◌, refl, append_assoc, arith, Result, Ok, Err}
+use Rattle.std.proofs.Common.{◌≡◌, ℕ, suc, ◌+◌, ◌-◌, ◌<◌, List, [], ◌∷◌, map, sym, ap, ◌∙◌, refl, append_assoc, arith, Result, Ok, Err}
 use Rattle.std.specs.List.{range_with_len}
 use Rattle.layout_model.specs.Reached.{total}
 use Rattle.value_reader.specs.declared.seen.Seen.{Seen}

@@ -1,5 +1,5 @@
 -- From what is seen and counted to the outcome.
-use Rattle.std.proofs.Common.{◌≡◌, ◌∙◌, sym, ap, arith, ℕ, ◌+◌, ◌≤◌, false, true, refl}
+use Rattle.std.proofs.Common.{◌≡◌, ◌∙◌, sym, ap, arith, ℕ, ◌+◌, ◌≤◌, false, refl}
 use Rattle.std.proofs.lemmas.Bool.{false≢true}
 use Rattle.rust_value.specs.declared.value.Val.{Val}
 use Rattle.layout_model.specs.declared.outcome.Outcome.TheVariants.{Value, Unavailable, Invalid}

@@ -1,6 +1,5 @@
 -- What is seen as gone.
-use Rattle.std.specs.Prelude.{◌≡◌, Bool, true, false}
-use Rattle.rust_value.specs.declared.value.Val.{Val}
+use Rattle.std.specs.Prelude.{Bool, true, false}
 use Rattle.value_reader.specs.declared.seen.Seen.{Seen}
 use Rattle.value_reader.specs.declared.seen.Seen.TheVariants.{Good, Bad, Gone}
 

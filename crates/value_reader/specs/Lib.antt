@@ -1,3 +1,4 @@
 pub mod Seeing
 pub mod Sees
 pub mod Lacking
+pub mod ImageLaws

@@ -2,6 +2,8 @@
 #![tactic(auto)]
 
 mod laws;
+mod located;
+mod locating;
 mod numbers;
 mod parts;
 mod pointers;
@@ -9,13 +11,13 @@ mod reach;
 mod reading;
 mod seen;
 mod selecting;
-mod view;
-mod words;
+mod sources;
 
-pub use laws::one_value;
+pub use laws::{levels_suffice, nodes_of_the_value, one_value};
+pub use located::Located;
+pub use locating::locate;
 pub use reading::read_value;
 pub use selecting::select;
-pub use view::Image;
 
 #[cfg(test)]
 mod tests;

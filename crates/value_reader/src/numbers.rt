@@ -1,27 +1,23 @@
 //! Values of numbers, by the primitive types that they have.
-ghost use Rattle.std.specs.Prelude.{◌≡◌, ◌^◌, ◌<◌};
+ghost use Rattle.std.specs.Prelude.{◌≡◌, ℕ, ◌^◌, ◌<◌, ◌&&◌, option_map, IfOk};
+ghost use Rattle.image_view.specs.Places.{part_of};
+ghost use Rattle.rust_value.specs.declared.value.Val.{Val};
+ghost use Rattle.rust_value.specs.declared.value.Val.TheVariants.{Dyn};
+ghost use Rattle.layout_model.specs.declared.primitive.Primitive.TheVariants.{Bool as BoolPrim, Char as CharPrim};
+ghost use Rattle.layout_model.specs.declared.set.TypeRef.{TypeRef};
 ghost use Rattle.layout_model.specs.Primitives.{prim_bytes};
 ghost use Rattle.layout_model.specs.Scalars.{prim_value};
-ghost use Rattle.layout_model.specs.Contexts.{number_at};
-ghost use Rattle.std.specs.Prelude.{ℕ, ◌&&◌};
-ghost use Rattle.layout_model.specs.declared.set.TypeRef.{TypeRef};
 ghost use Rattle.layout_model.specs.Pointers.{may_point};
-ghost use Rattle.layout_model.specs.Contexts.{Items, Context};
+ghost use Rattle.layout_model.specs.Contexts.{Items, Context, number_at, case_of};
 ghost use Rattle.layout_model.specs.Walk.{scalar_at, allowed, go_dyn, function_value, case_value};
 ghost use Rattle.value_reader.specs.declared.seen.Seen.{Seen};
 ghost use Rattle.value_reader.specs.declared.seen.Seen.TheVariants.{Good};
-ghost use Rattle.rust_value.specs.declared.value.Val.{Val};
-ghost use Rattle.rust_value.specs.declared.value.Val.TheVariants.{Dyn};
-ghost use Rattle.std.specs.Prelude.{option_map, IfOk};
-ghost use Rattle.layout_model.specs.Contexts.{case_of};
-ghost use Rattle.layout_model.specs.declared.primitive.Primitive.TheVariants.{Bool as BoolPrim, Char as CharPrim};
 ghost use Rattle.value_reader.specs.Sees.{sighting};
 
 use crate::parts::{number_at, word_at};
 use crate::pointers::may_point;
 use crate::seen::Seen;
-use crate::view::Image;
-use crate::words::copy_word;
+use image_view::Image;
 use layout_model::{Case, Primitive, prim_size};
 use rust_value::Val;
 use rv_io::{List, Memory};
@@ -79,7 +75,7 @@ fn char_value(number: u128) -> Option<Val>
 
 /// What is seen of a primitive.
 pub(crate) fn see_prim(prim: Primitive, image: &Image<'_>) -> Seen<Val>
-    ensures { result ≡ scalar_at sighting (prim_value prim) (number_at image.now 0 (prim_bytes prim)) }
+    ensures { result ≡ scalar_at sighting (prim_value prim) (number_at (part_of image.now) 0 (prim_bytes prim)) }
 {
     match number_at(image, 0, prim_size(prim)) {
         None => Seen::Gone,
@@ -92,7 +88,7 @@ pub(crate) fn see_prim(prim: Primitive, image: &Image<'_>) -> Seen<Val>
 
 /// What is seen of a pointer to a function.
 pub(crate) fn see_function(image: &Image<'_>) -> Seen<Val>
-    ensures { result ≡ scalar_at sighting function_value (number_at image.now 0 8) }
+    ensures { result ≡ scalar_at sighting function_value (number_at (part_of image.now) 0 8) }
 {
     match word_at(image, 0) {
         None => Seen::Gone,
@@ -103,7 +99,7 @@ pub(crate) fn see_function(image: &Image<'_>) -> Seen<Val>
 
 /// What is seen of a pointer to a trait object.
 pub(crate) fn see_dyn(kind: PtrKind, image: &Image<'_>) -> Seen<Val>
-    ensures { (c : Context) (go : ℕ → TypeRef → Items → Seen Val) → result ≡ go_dyn sighting c go kind (number_at image.now 0 8) (number_at image.now 8 8) }
+    ensures { (c : Context) (go : ℕ → TypeRef → Items → Seen Val) → result ≡ go_dyn sighting c go kind (number_at (part_of image.now) 0 8) (number_at (part_of image.now) 8 8) }
 {
     match (word_at(image, 0), word_at(image, 8)) {
         (Some(at), Some(vtable)) => dyn_seen(kind, at, vtable),
@@ -136,16 +132,13 @@ pub(crate) fn see_case(
     cases: &List<Case>,
     image: &Image<'_>,
 ) -> Result<Seen<Val>, Memory>
-    ensures { IfOk result (λ s. s ≡ scalar_at sighting (case_value cases.now) (number_at image.now 0 (prim_bytes tag))) }
+    ensures { IfOk result (λ s. s ≡ scalar_at sighting (case_value cases.now) (number_at (part_of image.now) 0 (prim_bytes tag))) }
 {
     match number_at(image, 0, prim_size(tag)) {
         None => Ok(Seen::Gone),
         Some(number) => match case_of(cases.as_slice(), number) {
             None => Ok(Seen::Bad),
-            Some(case) => Ok(Seen::Good(Val::Variant(
-                copy_word(&case.name, alloc)?,
-                List::new(alloc),
-            ))),
+            Some(case) => Ok(Seen::Good(Val::Variant(case.name.copy(alloc)?, List::new(alloc)))),
         },
     }
 }

@@ -1,17 +1,18 @@
 //! Parts of images, and what stands in them, as far as it is there.
 ghost use Rattle.std.specs.Prelude.{◌≡◌, ◌+◌, ◌*◌, ◌^◌, ◌≤◌, ◌<◌, IfSome, IfOk};
 ghost use Rattle.snapshot_file.specs.Memory.{sub, bytes_of};
+ghost use Rattle.image_view.specs.Places.{part_of};
 ghost use Rattle.layout_model.specs.Contexts.{number_at, tag_number};
 
-use crate::view::Image;
+use image_view::Image;
 use layout_model::{Tag, prim_size};
 use rv_io::{Memory, Text};
 use std::alloc::Global;
 
 /// So many items from an offset on, as far as they are there.
-#[tactic(auto, using(crate::proofs::Places::sub_clamped))]
+#[tactic(auto, using(crate::proofs::Places::part_clamped))]
 pub(crate) fn part_at<'a>(image: &Image<'a>, off: u64, len: u32) -> Image<'a>
-    ensures { result ≡ sub image.now off len }
+    ensures { part_of result ≡ sub (part_of image.now) off len }
 {
     let off = off.min(u64::from(image.len())) as u32;
     image.part(off, len.min(image.len() - off))
@@ -20,7 +21,7 @@ pub(crate) fn part_at<'a>(image: &Image<'a>, off: u64, len: u32) -> Image<'a>
 /// The little-endian number of so many items from an offset on.
 pub(crate) fn number_at(image: &Image<'_>, off: u32, width: u32) -> Option<u128>
     requires { width ≤ 16 }
-    ensures value { result ≡ number_at image.now off width }
+    ensures value { result ≡ number_at (part_of image.now) off width }
     ensures bound { IfSome result (λ n. n < 256 ^ width) }
 {
     let part = part_at(image, u64::from(off), width);
@@ -29,7 +30,7 @@ pub(crate) fn number_at(image: &Image<'_>, off: u32, width: u32) -> Option<u128>
 
 /// The number of eight items from an offset on.
 pub(crate) fn word_at(image: &Image<'_>, off: u32) -> Option<u64>
-    ensures { result ≡ number_at image.now off 8 }
+    ensures { result ≡ number_at (part_of image.now) off 8 }
 {
     match number_at(image, off, 8) {
         None => None,
@@ -39,7 +40,7 @@ pub(crate) fn word_at(image: &Image<'_>, off: u32) -> Option<u64>
 
 /// The number of an enum's tag, or 0 where it has none.
 pub(crate) fn tag_number(tag: &Option<Tag>, image: &Image<'_>) -> Option<u128>
-    ensures { result ≡ tag_number tag.now image.now }
+    ensures { result ≡ tag_number tag.now (part_of image.now) }
 {
     match tag {
         None => Some(0),
@@ -49,7 +50,7 @@ pub(crate) fn tag_number(tag: &Option<Tag>, image: &Image<'_>) -> Option<u128>
 
 /// All bytes; None exactly where one is missing.
 pub(crate) fn bytes_in(alloc: Global, image: &Image<'_>) -> Result<Option<Text>, Memory>
-    ensures { IfOk result (λ bytes. bytes ≡ bytes_of image.now) }
+    ensures { IfOk result (λ bytes. bytes ≡ bytes_of (part_of image.now)) }
 {
     if let Some(bytes) = image.whole() {
         return Ok(Some(Text::from_bytes(alloc, bytes)?));

@@ -1,6 +1,7 @@
 //! What a type reaches in a part, seen in one pass and counted on the way.
 ghost use Rattle.std.specs.Prelude.{◌≡◌, ◌+◌, ◌*◌, ◌^◌, ◌<◌, map, Some, option_map, slice_get};
 ghost use Rattle.snapshot_file.specs.Memory.{items_at};
+ghost use Rattle.image_view.specs.Places.{part_of};
 ghost use Rattle.layout_model.specs.HasSizes.{HasSizes};
 ghost use Rattle.layout_model.specs.Sizes.{size};
 ghost use Rattle.layout_model.specs.Contexts.{context_of, element_part, far_part, tag_number, number_at};
@@ -16,7 +17,7 @@ use crate::seen::{
     str_of, struct_of, text_at, variant_of,
 };
 use crate::selecting::chosen;
-use crate::view::Image;
+use image_view::Image;
 use layout_model::{Field, Set, Tag, TypeDef, TypeRef, Variant, size_of};
 use rust_value::{Part, Val};
 use rv_io::List;
@@ -46,7 +47,7 @@ impl<'a> Reach<'a> {
         left: &mut u64,
     ) -> Result<Seen<Val>, Stop>
         requires { HasSizes self.now.set.now }
-        ensures { let c = context_of self.now.set.now self.now.mem.now self.now.width in Sees (seen c levels depth ty image.now) (nodes c levels depth ty image.now) left.old left.new result }
+        ensures { let c = context_of self.now.set.now self.now.mem.now self.now.width in Sees (seen c levels depth ty (part_of image.now)) (nodes c levels depth ty (part_of image.now)) left.old left.new result }
     {
         count(left, 1)?;
         if levels == 0 {
@@ -73,7 +74,7 @@ impl<'a> Reach<'a> {
         left: &mut u64,
     ) -> Result<Seen<Val>, Stop>
         requires { HasSizes self.now.set.now }
-        ensures { let c = context_of self.now.set.now self.now.mem.now self.now.width in Sees (go_def sighting c (seen c levels) depth (Some def.now) image.now) (go_def counting c (nodes c levels) depth (Some def.now) image.now) left.old left.new result }
+        ensures { let c = context_of self.now.set.now self.now.mem.now self.now.width in Sees (go_def sighting c (seen c levels) depth (Some def.now) (part_of image.now)) (go_def counting c (nodes c levels) depth (Some def.now) (part_of image.now)) left.old left.new result }
     {
         match def {
             TypeDef::Struct { fields, .. } => {
@@ -117,7 +118,7 @@ impl<'a> Reach<'a> {
         left: &mut u64,
     ) -> Result<Seen<List<Part>>, Stop>
         requires { HasSizes self.now.set.now }
-        ensures { let c = context_of self.now.set.now self.now.mem.now self.now.width in Sees (parts_seen (map (go_field sighting c (seen c levels) depth image.now) fields.now)) (named_total (map (go_field counting c (nodes c levels) depth image.now) fields.now)) left.old left.new result }
+        ensures { let c = context_of self.now.set.now self.now.mem.now self.now.width in Sees (parts_seen (map (go_field sighting c (seen c levels) depth (part_of image.now)) fields.now)) (named_total (map (go_field counting c (nodes c levels) depth (part_of image.now)) fields.now)) left.old left.new result }
     {
         let mut parts = Seen::Good(List::new(alloc));
         for field in fields {
@@ -140,7 +141,7 @@ impl<'a> Reach<'a> {
         left: &mut u64,
     ) -> Result<Seen<List<Val>>, Stop>
         requires { HasSizes self.now.set.now }
-        ensures { let c = context_of self.now.set.now self.now.mem.now self.now.width in Sees (all_seen (go_elements sighting c (seen c levels) depth elem (element_part c elem image.now) count)) (total (go_elements counting c (nodes c levels) depth elem (element_part c elem image.now) count)) left.old left.new result }
+        ensures { let c = context_of self.now.set.now self.now.mem.now self.now.width in Sees (all_seen (go_elements sighting c (seen c levels) depth elem (element_part c elem (part_of image.now)) count)) (total (go_elements counting c (nodes c levels) depth elem (element_part c elem (part_of image.now)) count)) left.old left.new result }
     {
         let size = size_in(self.set, elem);
         let shown = count.min(u64::from(self.width)) as u32;
@@ -193,7 +194,7 @@ impl<'a> Reach<'a> {
         left: &mut u64,
     ) -> Result<Seen<Val>, Stop>
         requires { HasSizes self.now.set.now }
-        ensures { let c = context_of self.now.set.now self.now.mem.now self.now.width in Sees (go_slice sighting c (seen c levels) depth kind (Some elem) (number_at image.now 0 8) (number_at image.now 8 8)) (go_slice counting c (nodes c levels) depth kind (Some elem) (number_at image.now 0 8) (number_at image.now 8 8)) left.old left.new result }
+        ensures { let c = context_of self.now.set.now self.now.mem.now self.now.width in Sees (go_slice sighting c (seen c levels) depth kind (Some elem) (number_at (part_of image.now) 0 8) (number_at (part_of image.now) 8 8)) (go_slice counting c (nodes c levels) depth kind (Some elem) (number_at (part_of image.now) 0 8) (number_at (part_of image.now) 8 8)) left.old left.new result }
     {
         match (word_at(image, 0), word_at(image, 8)) {
             (Some(at), Some(len)) => self.see_span(alloc, kind, elem, at, len, depth, levels, left),
@@ -265,7 +266,7 @@ impl<'a> Reach<'a> {
         left: &mut u64,
     ) -> Result<Seen<Val>, Stop>
         requires { HasSizes self.now.set.now }
-        ensures { let c = context_of self.now.set.now self.now.mem.now self.now.width in Sees (go_str sighting c (seen c levels) depth kind (number_at image.now 0 8) (number_at image.now 8 8)) (go_str counting c (nodes c levels) depth kind (number_at image.now 0 8) (number_at image.now 8 8)) left.old left.new result }
+        ensures { let c = context_of self.now.set.now self.now.mem.now self.now.width in Sees (go_str sighting c (seen c levels) depth kind (number_at (part_of image.now) 0 8) (number_at (part_of image.now) 8 8)) (go_str counting c (nodes c levels) depth kind (number_at (part_of image.now) 0 8) (number_at (part_of image.now) 8 8)) left.old left.new result }
     {
         match (word_at(image, 0), word_at(image, 8)) {
             (Some(at), Some(len)) => self.see_text(alloc, kind, at, len, depth, levels, left),
@@ -310,7 +311,7 @@ impl<'a> Reach<'a> {
         left: &mut u64,
     ) -> Result<Seen<Val>, Stop>
         requires { HasSizes self.now.set.now }
-        ensures { let c = context_of self.now.set.now self.now.mem.now self.now.width in Sees (go_enum sighting c (seen c levels) depth variants.now image.now (tag_number tag.now image.now)) (go_enum counting c (nodes c levels) depth variants.now image.now (tag_number tag.now image.now)) left.old left.new result }
+        ensures { let c = context_of self.now.set.now self.now.mem.now self.now.width in Sees (go_enum sighting c (seen c levels) depth variants.now (part_of image.now) (tag_number tag.now (part_of image.now))) (go_enum counting c (nodes c levels) depth variants.now (part_of image.now) (tag_number tag.now (part_of image.now))) left.old left.new result }
     {
         match tag_number(tag, image) {
             None => Ok(Seen::Gone),
@@ -332,7 +333,7 @@ impl<'a> Reach<'a> {
         left: &mut u64,
     ) -> Result<Seen<Val>, Stop>
         requires { HasSizes self.now.set.now }
-        ensures { let c = context_of self.now.set.now self.now.mem.now self.now.width in Sees (go_variant sighting c (seen c levels) depth image.now (Some variant.now)) (go_variant counting c (nodes c levels) depth image.now (Some variant.now)) left.old left.new result }
+        ensures { let c = context_of self.now.set.now self.now.mem.now self.now.width in Sees (go_variant sighting c (seen c levels) depth (part_of image.now) (Some variant.now)) (go_variant counting c (nodes c levels) depth (part_of image.now) (Some variant.now)) left.old left.new result }
     {
         let parts = self.see_fields(alloc, variant.fields.as_slice(), image, depth, levels, left)?;
         Ok(variant_of(alloc, &variant.name, parts)?)
@@ -368,7 +369,7 @@ fn offset(i: u32, size: u32) -> u64
 /// So many items from an offset behind an address on.
 fn far_image<'a>(mem: &'a Mem, at: u64, off: u64, len: u32) -> Image<'a>
     requires { len < 2 ^ 31 }
-    ensures { result ≡ items_at mem.now (at + off) len }
+    ensures { part_of result ≡ items_at mem.now (at + off) len }
 {
     match at.checked_add(off) {
         Some(from) => Image::of_mem(mem, from, len),

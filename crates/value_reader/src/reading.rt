@@ -1,12 +1,13 @@
 //! The value of a type, read from its image.
 ghost use Rattle.std.specs.Prelude.{◌≡◌, ◌≤◌, IfOk};
+ghost use Rattle.image_view.specs.Places.{part_of};
 ghost use Rattle.layout_model.specs.HasSizes.{HasSizes};
 ghost use Rattle.layout_model.specs.Contexts.{context_of};
 ghost use Rattle.layout_model.specs.Outcomes.{IsOutcome, IsOnlyValue, HasTexts};
 
 use crate::reach::Reach;
 use crate::seen::{Seen, Stop};
-use crate::view::Image;
+use image_view::Image;
 use layout_model::{Outcome, Set, TypeRef};
 use rv_io::Memory;
 use snapshot_file::Mem;
@@ -30,9 +31,9 @@ pub fn read_value(
     requires shallow { depth ≤ 4 }
 
     // The outcome is the first that holds, and a value is the only one that has the image.
-    ensures outcome { IfOk result (IsOutcome (context_of set.now mem.now width) depth ty image.entry) }
+    ensures outcome { IfOk result (IsOutcome (context_of set.now mem.now width) depth ty (part_of image.entry)) }
     ensures texts { IfOk result HasTexts }
-    ensures only { IfOk result (IsOnlyValue (context_of set.now mem.now width) depth ty image.entry) }
+    ensures only { IfOk result (IsOnlyValue (context_of set.now mem.now width) depth ty (part_of image.entry)) }
 {
     let reach = Reach { set, mem, width };
     let mut left = MOST_NODES;

@@ -5,7 +5,6 @@ ghost use Rattle.snapshot_file.specs.Memory.{bytes_of, items_at};
 ghost use Rattle.value_reader.specs.Seeing.{seen_map, push_seen};
 ghost use Rattle.value_reader.specs.Sees.{named, Counts, or_gone, checked_text};
 
-use crate::words::copy_word;
 use readers::is_text;
 use rust_value::{Part, Val};
 use rv_io::{Boxed, List, Memory, Text};
@@ -88,7 +87,7 @@ pub(crate) fn push_part(
     match parts {
         Seen::Good(mut items) => match value {
             Seen::Good(val) => {
-                let name = copy_word(name, alloc)?;
+                let name = name.copy(alloc)?;
                 items.push(Part { name, val })?;
                 Ok(Seen::Good(items))
             }
@@ -123,7 +122,7 @@ pub(crate) fn variant_of(
     ensures { IfOk result (λ s. s ≡ seen_map (vals.Variant name.now) parts) }
 {
     match parts {
-        Seen::Good(parts) => Ok(Seen::Good(Val::Variant(copy_word(name, alloc)?, parts))),
+        Seen::Good(parts) => Ok(Seen::Good(Val::Variant(name.copy(alloc)?, parts))),
         Seen::Bad => Ok(Seen::Bad),
         Seen::Gone => Ok(Seen::Gone),
     }

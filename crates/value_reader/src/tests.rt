@@ -2,9 +2,11 @@
 ghost use Rattle.std.specs.Prelude.{IfOk};
 ghost use Rattle.layout_model.specs.Outcomes.{HasTexts};
 
+mod places;
 mod sets;
 
-use crate::{Image, read_value, select};
+use crate::{read_value, select};
+use image_view::Image;
 use layout_model::{Outcome, Selector, Set, TypeRef, check_sound};
 use rust_value::text;
 use rv_io::{Buf, List};

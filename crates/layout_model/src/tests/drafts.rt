@@ -4,6 +4,7 @@ ghost use Rattle.std.specs.List.{All};
 ghost use Rattle.layout_model.specs.DerivedNames.{name_of};
 ghost use Rattle.layout_model.specs.Law10.{IsNamed, AreNamed, IsSet};
 
+use crate::func::Func;
 use crate::primitive::Primitive;
 use crate::set::{
     Case, Field, Param, Selector, Set, Static, Tag, Target, TypeDef, TypeRef, Variant,
@@ -59,7 +60,7 @@ pub enum Draft<'a> {
 }
 
 /// A proper name, or the text in place of one.
-fn named(alloc: Global, text: &str) -> Result<Name, Fail>
+pub fn named(alloc: Global, text: &str) -> Result<Name, Fail>
     ensures { IfOk result IsNamed }
 {
     match read_rust(alloc, text.as_bytes()) {
@@ -69,7 +70,7 @@ fn named(alloc: Global, text: &str) -> Result<Name, Fail>
     }
 }
 
-fn x(alloc: Global) -> Result<Word, Fail> {
+pub fn x(alloc: Global) -> Result<Word, Fail> {
     Ok(Word::new(alloc, b"x")?)
 }
 
@@ -221,8 +222,14 @@ fn statics_of(alloc: Global, fixed: &[Fixed<'_>]) -> Result<Vec<Static>, Fail>
     Ok(statics)
 }
 
-/// The set of these types and statics.
-pub fn set_of(alloc: Global, drafts: &[Draft<'_>], fixed: &[Fixed<'_>]) -> Result<Set, Fail>
+/// The set of these types, statics and functions.
+pub fn set_with(
+    alloc: Global,
+    drafts: &[Draft<'_>],
+    fixed: &[Fixed<'_>],
+    funcs: List<Func>,
+) -> Result<Set, Fail>
+    requires { All (λ f. IsNamed f.name) funcs }
     ensures { IfOk result IsSet }
 {
     let types = types_of(alloc, drafts)?;
@@ -231,5 +238,13 @@ pub fn set_of(alloc: Global, drafts: &[Draft<'_>], fixed: &[Fixed<'_>]) -> Resul
         target: Target { ptr: 8 },
         types: List::from_vec(types),
         statics: List::from_vec(statics),
+        funcs,
     })
+}
+
+/// The set of these types and statics.
+pub fn set_of(alloc: Global, drafts: &[Draft<'_>], fixed: &[Fixed<'_>]) -> Result<Set, Fail>
+    ensures { IfOk result IsSet }
+{
+    set_with(alloc, drafts, fixed, List::new(alloc))
 }

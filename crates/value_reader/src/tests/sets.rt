@@ -102,5 +102,6 @@ pub fn set(alloc: Global) -> Result<Set, Fail> {
         target: Target { ptr: 8 },
         types,
         statics: List::new(alloc),
+        funcs: List::new(alloc),
     })
 }

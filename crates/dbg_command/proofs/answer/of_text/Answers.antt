@@ -2,6 +2,6 @@ use Rattle.layout_model.specs.Laws.{sound_laws}
 use Rattle.dbg_command.proofs.answer.of_text.Goals as goal
 
 -- the first three laws of a lawful set
-pub put_lines-requires-clause-sizes : goal.put_lines-requires-clause-sizes
+pub lines-requires-clause-sizes : goal.lines-requires-clause-sizes
 unfolding sound_laws
-put_lines-requires-clause-sizes g c = record { within = c.requires.lawful 0; shallow = c.requires.lawful 1; small = c.requires.lawful 2 }
+lines-requires-clause-sizes g c = record { within = c.requires.lawful 0; shallow = c.requires.lawful 1; small = c.requires.lawful 2 }

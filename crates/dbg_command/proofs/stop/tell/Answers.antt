@@ -3,9 +3,6 @@ use Rattle.dbg_command.proofs.stop.tell.Goals as goal
 pub returns-in-Usage : goal.returns-in-Usage
 returns-in-Usage g c = rw c.in-Usage.is c.tell_text.ensures
 
-pub returns-in-NotYet : goal.returns-in-NotYet
-returns-in-NotYet g c = rw c.in-NotYet.is c.tell_text-in-NotYet.ensures
-
 pub returns-in-LayoutLine : goal.returns-in-LayoutLine
 returns-in-LayoutLine g c = rw (c.in-LayoutLine.is, ← c.from.ensures) c.tell_numbers.ensures
 

@@ -1,6 +1,7 @@
-use Rattle.std.proofs.Common.{◌≡◌, ◌≢◌, ◌∙◌, sym, ap, true, false, [], length, ◌==◌}
+use Rattle.std.proofs.Common.{subst}
 use Rattle.std.proofs.lemmas.Result.{err_from_is_err_and}
-use Rattle.layout_file.proofs.Refused.{refused_line, refused_end, goes_on}
+use Rattle.layout_file.specs.Progress.{HasRead, Ends}
+use Rattle.layout_file.proofs.Refused.{refused_line, refused_end, must_go_on, goes_on, all_read}
 use Rattle.layout_file.proofs.reader.read.Goals as goal
 
 -- a line is refused
@@ -14,10 +15,15 @@ pub loop-line-preserved : goal.loop-line-preserved
 loop-line-preserved c =
     goes_on c.args.bytes.now c.loop-line.reading c.in_ok-reading-2.reading c.loop-line.rest.now c.in-Some.line.now c.in-Some.more.now c.loop-line.invariant c.in-Some.ensures.cut c.in_ok-reading-2.ensures
 
--- bytes behind the last line
-pub returns-else-is_empty : goal.returns-else-is_empty
-returns-else-is_empty c =
-    let some : c.loop-line.rest.now ≢ [] =
-    λ none. let same : true ≡ false = sym (ap (λ l. length l == 0) none) ∙ sym c.is_empty.ensures ∙ c.if-is_empty.false in cc
-    in
-    refused_end c.args.bytes.now c.loop-line.reading c.loop-line.rest.now c.refuse_end.result c.loop-line.invariant c.in_default.ensures.cut some c.refuse_end.ensures
+-- the file ends where it may
+pub returns-then-is_over : goal.returns-then-is_over
+returns-then-is_over c =
+    let e = subst (Ends c.loop-line.reading c.loop-line.rest.now) c.if-is_over.true c.is_over.ensures in
+    all_read c.args.bytes.now c.loop-line.reading (subst (HasRead c.args.bytes.now c.loop-line.reading) e.0 c.loop-line.invariant) e.1
+
+-- bytes behind the last line, or an entry that stands open
+pub returns-else-is_over : goal.returns-else-is_over
+returns-else-is_over c =
+    let e = subst (Ends c.loop-line.reading c.loop-line.rest.now) c.if-is_over.false c.is_over.ensures in
+    refused_end c.args.bytes.now c.loop-line.reading c.loop-line.rest.now c.refuse_end.result c.loop-line.invariant c.in_default.ensures.cut
+    (λ none. must_go_on c.loop-line.reading.set c.loop-line.reading.begun (e none)) c.refuse_end.ensures

@@ -5,6 +5,8 @@ use Rattle.layout_model.specs.Law8.{Law8}
 use Rattle.layout_model.specs.Law9.{Law9}
 use Rattle.layout_model.specs.Law10.{Law10}
 use Rattle.layout_model.specs.Law11.{Law11}
+use Rattle.layout_model.specs.Law12.{Law12}
+use Rattle.layout_model.specs.Law13.{Law13}
 use Rattle.layout_model.specs.Law14.{Law14}
 use Rattle.layout_model.specs.FirstBreach.{Numbered}
 use Rattle.layout_model.specs.Laws.{further_laws}
@@ -16,8 +18,14 @@ use Rattle.layout_model.proofs.checks.check_further_laws.Goals as goal
 abbrev from14 : Set → List Numbered
 from14 set = record { number = 14; law = Law14 set } ∷ []
 
+abbrev from13 : Set → List Numbered
+from13 set = record { number = 13; law = Law13 set } ∷ from14 set
+
+abbrev from12 : Set → List Numbered
+from12 set = record { number = 12; law = Law12 set } ∷ from13 set
+
 abbrev from11 : Set → List Numbered
-from11 set = record { number = 11; law = Law11 set } ∷ from14 set
+from11 set = record { number = 11; law = Law11 set } ∷ from12 set
 
 abbrev from10 : Set → List Numbered
 from10 set = record { number = 10; law = Law10 set } ∷ from11 set
@@ -69,11 +77,27 @@ returns-in_err-law_11 c =
     let set = c.args.set.now in
     let p = err_from_is_err_and c.from_residual-in_err-law_11.result c.from_residual-in_err-law_11.ensures.1 in
     let e = c.in_err-law_11.field-0.0 in
-    rw (p.1, p.2) (go_on set 7 (Law7 set) (from8 set) (Err e) c.in_ok-law_7.ensures (go_on set 8 (Law8 set) (from9 set) (Err e) c.in_ok-law_8.ensures (go_on set 9 (Law9 set) (from10 set) (Err e) c.in_ok-law_9.ensures (go_on set 10 (Law10 set) (from11 set) (Err e) c.in_ok-law_10.ensures (stop set 11 (Law11 set) (from14 set) e c.in_err-law_11.ensures)))))
+    rw (p.1, p.2) (go_on set 7 (Law7 set) (from8 set) (Err e) c.in_ok-law_7.ensures (go_on set 8 (Law8 set) (from9 set) (Err e) c.in_ok-law_8.ensures (go_on set 9 (Law9 set) (from10 set) (Err e) c.in_ok-law_9.ensures (go_on set 10 (Law10 set) (from11 set) (Err e) c.in_ok-law_10.ensures (stop set 11 (Law11 set) (from12 set) e c.in_err-law_11.ensures)))))
+
+pub returns-in_err-law_12 : goal.returns-in_err-law_12
+unfolding further_laws
+returns-in_err-law_12 c =
+    let set = c.args.set.now in
+    let p = err_from_is_err_and c.from_residual-in_err-law_12.result c.from_residual-in_err-law_12.ensures.1 in
+    let e = c.in_err-law_12.field-0.0 in
+    rw (p.1, p.2) (go_on set 7 (Law7 set) (from8 set) (Err e) c.in_ok-law_7.ensures (go_on set 8 (Law8 set) (from9 set) (Err e) c.in_ok-law_8.ensures (go_on set 9 (Law9 set) (from10 set) (Err e) c.in_ok-law_9.ensures (go_on set 10 (Law10 set) (from11 set) (Err e) c.in_ok-law_10.ensures (go_on set 11 (Law11 set) (from12 set) (Err e) c.in_ok-law_11.ensures (stop set 12 (Law12 set) (from13 set) e c.in_err-law_12.ensures))))))
+
+pub returns-in_err-law_13 : goal.returns-in_err-law_13
+unfolding further_laws
+returns-in_err-law_13 c =
+    let set = c.args.set.now in
+    let p = err_from_is_err_and c.from_residual-in_err-law_13.result c.from_residual-in_err-law_13.ensures.1 in
+    let e = c.in_err-law_13.field-0.0 in
+    rw (p.1, p.2) (go_on set 7 (Law7 set) (from8 set) (Err e) c.in_ok-law_7.ensures (go_on set 8 (Law8 set) (from9 set) (Err e) c.in_ok-law_8.ensures (go_on set 9 (Law9 set) (from10 set) (Err e) c.in_ok-law_9.ensures (go_on set 10 (Law10 set) (from11 set) (Err e) c.in_ok-law_10.ensures (go_on set 11 (Law11 set) (from12 set) (Err e) c.in_ok-law_11.ensures (go_on set 12 (Law12 set) (from13 set) (Err e) c.in_ok-law_12.ensures (stop set 13 (Law13 set) (from14 set) e c.in_err-law_13.ensures)))))))
 
 pub returns : goal.returns
 unfolding further_laws
 returns c =
     let set = c.args.set.now in
     let r = c.law_14.result in
-    (go_on set 7 (Law7 set) (from8 set) r c.in_ok-law_7.ensures (go_on set 8 (Law8 set) (from9 set) r c.in_ok-law_8.ensures (go_on set 9 (Law9 set) (from10 set) r c.in_ok-law_9.ensures (go_on set 10 (Law10 set) (from11 set) r c.in_ok-law_10.ensures (go_on set 11 (Law11 set) (from14 set) r c.in_ok-law_11.ensures (last set 14 (Law14 set) r c.law_14.ensures))))))
+    (go_on set 7 (Law7 set) (from8 set) r c.in_ok-law_7.ensures (go_on set 8 (Law8 set) (from9 set) r c.in_ok-law_8.ensures (go_on set 9 (Law9 set) (from10 set) r c.in_ok-law_9.ensures (go_on set 10 (Law10 set) (from11 set) r c.in_ok-law_10.ensures (go_on set 11 (Law11 set) (from12 set) r c.in_ok-law_11.ensures (go_on set 12 (Law12 set) (from13 set) r c.in_ok-law_12.ensures (go_on set 13 (Law13 set) (from14 set) r c.in_ok-law_13.ensures (last set 14 (Law14 set) r c.law_14.ensures))))))))

@@ -7,4 +7,4 @@ use Rattle.layout_model.proofs.extents.law_3.Goals as goal
 pub returns : goal.returns
 returns c =
     let set = c.args.set.now in
-    rw c.breach.ensures (one_law set 3 (Law3 set) (eqb set.target.ptr 8) c.first_3.result None (Decides-eqb set.target.ptr 8) (rw c.as_slice.ensures at c.first_3.ensures) (λ i _. tt))
+    rw c.breach.ensures (one_law set 3 (Law3 set) (eqb set.target.ptr 8) c.first_3.result None None (Decides-eqb set.target.ptr 8) (rw c.as_slice.ensures at c.first_3.ensures) (λ i _. tt) (λ i _. tt))

@@ -5,4 +5,4 @@ use Rattle.layout_model.proofs.nesting.law_2.Goals as goal
 pub returns : goal.returns
 returns c =
     let set = c.args.set.now in
-    rw c.breach.ensures (of_types set 2 (Law2 set) c.in_ok-def.def tt (λ i. tt) (rw c.as_slice.ensures at c.in_ok-def.ensures))
+    rw c.breach.ensures (of_types set 2 (Law2 set) c.in_ok-def.def tt (λ i. tt) (λ i. tt) (rw c.as_slice.ensures at c.in_ok-def.ensures))

@@ -1,5 +1,5 @@
-use Rattle.snapshot_file.proofs.ReadFiles.{spells_if_ok}
+use Rattle.snapshot_file.proofs.FileFaults.{is_reading}
 use Rattle.snapshot_file.proofs.file.read.Goals as goal
 
-pub returns-clause-spelled : goal.returns-clause-spelled
-returns-clause-spelled c = spells_if_ok c.args.bytes.now c.read_snapshot.result c.read_snapshot.ensures
+pub returns : goal.returns
+returns c = is_reading c.args.bytes.now c.read_snapshot.result c.read_snapshot.ensures

@@ -1,5 +1,5 @@
 -- A type that the set lacks has size 0, and every size is small.
-use Rattle.std.proofs.Common.{◌≡◌, ◌∙◌, sym, ap, length, arith}
+use Rattle.std.proofs.Common.{◌∙◌, sym, ap, length, arith}
 use Rattle.std.proofs.lemmas.Option.{slice_get_past}
 use Rattle.layout_model.specs.Sizes.{size, size_by, size_at}
 use Rattle.layout_model.proofs.SizeSteps.{small_size, are_small}

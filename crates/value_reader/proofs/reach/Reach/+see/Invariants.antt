@@ -1,5 +1,6 @@
 use Rattle.std.proofs.Common.{◌≡◌, ℕ, ◌+◌, ◌*◌, ◌-◌, map, drop}
 use Rattle.std.specs.List.{range_with_len}
+use Rattle.image_view.specs.Places.{part_of}
 use Rattle.layout_model.specs.Contexts.{context_of, element_part, far_part}
 use Rattle.layout_model.specs.Walk.{go_field}
 use Rattle.layout_model.specs.Reached.{counting, total, named_total}
@@ -42,8 +43,8 @@ decreases-see_enum l = 8 * l.levels + 3
 abbrev pub invariant-see_fields-loop-field : goal.invariant-see_fields-loop-field
 invariant-see_fields-loop-field l =
     let c = context_of l.self.set.now l.self.mem.now l.self.width in
-    let see = go_field sighting c (seen c l.levels) l.depth l.image in
-    let count = go_field counting c (nodes c l.levels) l.depth l.image in
+    let see = go_field sighting c (seen c l.levels) l.depth (part_of l.image) in
+    let count = go_field counting c (nodes c l.levels) l.depth (part_of l.image) in
     record {
       seen : append_seen l.parts (parts_seen (map see (drop l.field-index l.fields))) ≡ parts_seen (map see l.fields);
       left : l.left + named_total (map count l.fields) ≡ l.fn.left + named_total (map count (drop l.field-index l.fields));
@@ -53,8 +54,8 @@ invariant-see_fields-loop-field l =
 abbrev pub invariant-see_array-loop-i : goal.invariant-see_array-loop-i
 invariant-see_array-loop-i l =
     let c = context_of l.self.set.now l.self.mem.now l.self.width in
-    let see = λ (i : ℕ). seen c l.levels l.depth l.elem (element_part c l.elem l.image i) in
-    let count = λ (i : ℕ). nodes c l.levels l.depth l.elem (element_part c l.elem l.image i) in
+    let see = λ (i : ℕ). seen c l.levels l.depth l.elem (element_part c l.elem (part_of l.image) i) in
+    let count = λ (i : ℕ). nodes c l.levels l.depth l.elem (element_part c l.elem (part_of l.image) i) in
     record {
       seen : append_seen l.values (all_seen (map see (range_with_len l.i (l.shown - l.i)))) ≡ all_seen (map see (range_with_len 0 l.shown));
       left : l.left + total (map count (range_with_len 0 l.shown)) ≡ l.fn.left + total (map count (range_with_len l.i (l.shown - l.i)));

@@ -1,0 +1,6 @@
+pub mod Runs
+pub mod Numbers
+pub mod Lasts
+pub mod Fronts
+pub mod Parts
+pub mod Missing

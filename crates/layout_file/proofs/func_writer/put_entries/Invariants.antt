@@ -1,0 +1,8 @@
+use Rattle.std.proofs.Common.{◌≡◌, ◌++◌, take}
+use Rattle.std.specs.List.{flat_map}
+use Rattle.layout_file.specs.Sets.{part_text, entry_lines}
+use Rattle.layout_file.proofs.func_writer.put_entries.Given as goal
+
+-- the lines so far are put
+abbrev pub invariant-loop-entry : goal.invariant-loop-entry
+invariant-loop-entry l = l.out ≡ l.initial.out ++ flat_map part_text (flat_map entry_lines (take l.entry-index l.entries))

@@ -1,0 +1,9 @@
+use Rattle.std.proofs.Common.{◌≡◌, ◌++◌, map, take}
+use Rattle.std.specs.List.{flat_map}
+use Rattle.layout_file.specs.declared.line.Line.TheVariants as lines
+use Rattle.layout_file.specs.Sets.{part_text}
+use Rattle.layout_file.proofs.func_writer.put_pieces.Given as goal
+
+-- the lines so far are put
+abbrev pub invariant-loop-piece : goal.invariant-loop-piece
+invariant-loop-piece l = l.out ≡ l.initial.out ++ flat_map part_text (map (λ p. lines.Piece p) (take l.piece-index l.pieces))

@@ -1,0 +1,24 @@
+use Rattle.std.proofs.Common.{◌≡◌, ◌∙◌, sym, ap, subst, ◌++◌, append_assoc, map, OnOk}
+use Rattle.std.specs.List.{flat_map}
+use Rattle.layout_file.specs.declared.line.Line.TheVariants as lines
+use Rattle.layout_file.specs.Sets.{head_text, texts, type_lines, func_lines, part_text}
+use Rattle.layout_file.proofs.FuncTexts.{layout_text_parts}
+use Rattle.layout_file.proofs.writer.put_set.Goals as goal
+
+-- the head, the types, the statics and the functions are the whole text
+pub returns-clause-put : goal.returns-clause-put
+returns-clause-put c =
+    let set = c.args.set.now in
+    let old = c.args.out.now in
+    let after = c.put_funcs.new.out in
+    let head = head_text set.target.ptr in
+    let types = texts 0 (flat_map type_lines set.types) in
+    let statics = flat_map part_text (map (λ s. lines.Static s) set.statics) in
+    let funcs = flat_map part_text (flat_map func_lines set.funcs) in
+    let a = subst (λ xs. OnOk c.put_funcs.result (after ≡ c.put_statics.new.out ++ flat_map part_text (flat_map func_lines xs))) c.as_slice-3.ensures c.put_funcs.ensures.put in
+    let b = subst (λ xs. c.put_statics.new.out ≡ c.put_types.new.out ++ flat_map part_text (map (λ s. lines.Static s) xs)) c.as_slice-2.ensures c.in_ok-put_statics.ensures.put in
+    let d = subst (λ xs. c.put_types.new.out ≡ c.put_head.new.out ++ texts 0 (flat_map type_lines xs)) c.as_slice.ensures c.in_ok-put_types.ensures.put in
+    let e = b ∙ ap (λ t. t ++ statics) (d ∙ ap (λ t. t ++ types) c.in_ok-put_head.ensures.put) in
+    let f = subst (λ o. OnOk c.put_funcs.result (after ≡ o ++ funcs)) e a in
+    subst (λ l. OnOk c.put_funcs.result (after ≡ l))
+    (append_assoc ((old ++ head) ++ types) statics funcs ∙ append_assoc (old ++ head) types (statics ++ funcs) ∙ append_assoc old head (types ++ (statics ++ funcs)) ∙ ap (λ t. old ++ t) (sym (layout_text_parts set))) f

@@ -1,0 +1,5 @@
+//! Whole runs of `text` over values of every kind. There is nothing here but tests.
+#![tactic(auto)]
+
+#[cfg(test)]
+mod tests;

@@ -1,4 +1,0 @@
-use Rattle.value_reader.proofs.view.+number_from.Given as goal
-
-abbrev pub decreases-number_from : goal.decreases-number_from
-decreases-number_from l = l.width
