@@ -52,7 +52,7 @@ def write_function(out, number, towers, depth, variables, entries, location):
 def write_functions(path, functions, towers, depth, variables, entries, size, location):
     """So many functions of one shape; the variables' type has so many bytes."""
     with open(path, 'w') as out:
-        out.write('rdbg-layout 1\ntarget 8\ntype 0 array %d u8\n' % size)
+        out.write('rdbg-layout 1\ntarget 8\ntype 0 bytes %d 1 demo::B\n' % size)
         for i in range(functions):
             write_function(out, i, towers, depth, variables, entries, location)
 
@@ -63,8 +63,8 @@ def in_memory(k):
 
 
 def in_pieces(count):
-    """So many pieces of one byte each, of which every second is nowhere."""
-    pieces = ''.join('\npiece 1 %s' % ['reg rax', 'none'][i % 2] for i in range(count))
+    """So many pieces of one byte each, in two registers by turns."""
+    pieces = ''.join('\npiece 1 %s' % ['reg rax', 'reg rbp'][i % 2] for i in range(count))
     return lambda k: 'pieces %d' % count + pieces
 
 

@@ -5,7 +5,6 @@ use Rattle.readers.specs.Hex.{hex_text}
 use Rattle.snapshot_file.specs.Memory.{items_at}
 use Rattle.snapshot_file.specs.declared.snapshot.Snapshot.{Snapshot}
 use Rattle.rust_value.specs.Texts.{text_of}
-use Rattle.type_names.specs.RustText.{rust_text}
 use Rattle.layout_model.specs.declared.func.Func.{Func}
 use Rattle.layout_model.specs.declared.func.Scope.{Scope}
 use Rattle.layout_model.specs.declared.func.Var.{Var}
@@ -19,6 +18,7 @@ use Rattle.layout_model.specs.Contexts.{Items, Context, context_of}
 use Rattle.layout_model.specs.Outcomes.{IsOutcome}
 use Rattle.layout_model.specs.Places.{place_of}
 use Rattle.layout_model.specs.Sizes.{size}
+use Rattle.layout_file.specs.Spellings.{name_text}
 
 -- what stands behind the ` = `
 abbrev pub outcome_text : Outcome → List ℕ
@@ -32,8 +32,9 @@ abbrev pub IsShownAt : Context → ℕ → TypeRef → Option ℕ → Outcome �
 IsShownAt c depth ty (Some at) o = IsOutcome c depth ty (items_at c.memory at (size c.types ty)) o
 IsShownAt c depth ty None o = o ≡ Unavailable
 
+-- names stand as in a layout file: a proper name in Rust's spelling, a raw one in quotes
 abbrev pub static_line : Static → Outcome → List ℕ
-static_line s o = codes "static " ++ rust_text s.name ++ codes " = " ++ outcome_text o ++ 10 ∷ []
+static_line s o = codes "static " ++ name_text s.name ++ codes " = " ++ outcome_text o ++ 10 ∷ []
 
 -- the line of the static, with the outcome of the bytes at its address
 abbrev pub IsStaticLine : Context → ℕ → Static → List ℕ → Type 0
@@ -77,7 +78,7 @@ abbrev pub AreVarLines : Context → Snapshot → ℕ → Scope → List ℕ →
 AreVarLines c snap depth scope text = AreEach (IsVarLine c snap depth) scope.vars text
 
 abbrev pub func_line : Func → List ℕ
-func_line f = codes "fn " ++ rust_text f.name ++ 10 ∷ []
+func_line f = codes "fn " ++ name_text f.name ++ 10 ∷ []
 
 -- the line of the function, and those of each of its scopes that has the program counter, in order
 abbrev pub IsFuncText : Context → Snapshot → ℕ → Func → List ℕ → Type 0

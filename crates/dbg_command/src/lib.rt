@@ -8,6 +8,7 @@ mod printed;
 mod printed_funcs;
 mod shown;
 mod stop;
+mod view;
 
 pub use command::{Words, run};
 pub use printed::lines;

@@ -10,52 +10,97 @@ ghost use Rattle.layout_model.specs.Sizes.{size};
 ghost use Rattle.dbg_command.specs.Lines.{AreEach, AreVarLines, IsFuncText, IsShownIn, IsVarLine, func_line, var_line, is_in, is_entered, is_called, first_is_entered};
 
 use crate::shown::put_outcome;
-use layout_model::{Func, Outcome, Scope, Set, Var, Zone, size_of};
+use crate::view::View;
+use layout_file::put_name;
+use layout_model::{Func, Outcome, Scope, Var, Zone, size_of};
 use rv_io::{Buf, Memory};
-use snapshot_file::Snapshot;
 use std::alloc::Global;
-use type_names::rust_spelling;
-use value_reader::{locate, read_value};
+use value_reader::locate;
 
-/// The functions whose body has the program counter, each with its variables.
-pub(crate) fn put_funcs(
-    alloc: Global,
-    set: &Set,
-    snap: &Snapshot,
-    depth: u32,
-    width: u32,
-    out: &mut Buf,
-) -> Result<(), Memory>
-    requires sizes { HasSizes set.now }
-    requires shallow { depth ≤ 4 }
-    ensures put { OnOk result ((text : List ℕ) × (out.new ≡ out.old ++ text) × AreEach (IsFuncText (context_of set.now snap.now.mem width) snap.now depth) (filter (is_called snap.now.pc) set.now.funcs) text) }
-    ensures front { OnErr result (take (length out.old) out.new ≡ out.old) }
-{
-    put_called(alloc, set, snap, set.funcs.as_slice(), depth, width, out)
-}
+impl View<'_> {
+    /// The functions whose body has the program counter, each with its variables.
+    pub(crate) fn put_funcs(&self, alloc: Global, out: &mut Buf) -> Result<(), Memory>
+        requires sizes { HasSizes self.now.set.now }
+        requires shallow { self.now.depth ≤ 4 }
+        ensures put { OnOk result ((text : List ℕ) × (out.new ≡ out.old ++ text) × AreEach (IsFuncText (context_of self.now.set.now self.now.snap.now.mem self.now.width) self.now.snap.now self.now.depth) (filter (is_called self.now.snap.now.pc) self.now.set.now.funcs) text) }
+        ensures front { OnErr result (take (length out.old) out.new ≡ out.old) }
+    {
+        self.put_called(alloc, self.set.funcs.as_slice(), out)
+    }
 
-/// Those of the functions whose body has the program counter.
-fn put_called(
-    alloc: Global,
-    set: &Set,
-    snap: &Snapshot,
-    funcs: &[Func],
-    depth: u32,
-    width: u32,
-    out: &mut Buf,
-) -> Result<(), Memory>
-    requires sizes { HasSizes set.now }
-    requires within { All (HasVarsWithin (length set.now.types)) funcs.now }
-    requires shallow { depth ≤ 4 }
-    ensures put { OnOk result ((text : List ℕ) × (out.new ≡ out.old ++ text) × AreEach (IsFuncText (context_of set.now snap.now.mem width) snap.now depth) (filter (is_called snap.now.pc) funcs.now) text) }
-    ensures front { OnErr result (take (length out.old) out.new ≡ out.old) }
-{
-    for func in funcs {
-        if is_called(snap.pc, func) {
-            put_func(alloc, set, snap, func, depth, width, out)?;
+    /// Those of the functions whose body has the program counter.
+    fn put_called(&self, alloc: Global, funcs: &[Func], out: &mut Buf) -> Result<(), Memory>
+        requires sizes { HasSizes self.now.set.now }
+        requires within { All (HasVarsWithin (length self.now.set.now.types)) funcs.now }
+        requires shallow { self.now.depth ≤ 4 }
+        ensures put { OnOk result ((text : List ℕ) × (out.new ≡ out.old ++ text) × AreEach (IsFuncText (context_of self.now.set.now self.now.snap.now.mem self.now.width) self.now.snap.now self.now.depth) (filter (is_called self.now.snap.now.pc) funcs.now) text) }
+        ensures front { OnErr result (take (length out.old) out.new ≡ out.old) }
+    {
+        for func in funcs {
+            if is_called(self.snap.pc, func) {
+                self.put_func(alloc, func, out)?;
+            }
+        }
+        Ok(())
+    }
+
+    /// The line of a function, and those of each of its scopes that has the program counter.
+    fn put_func(&self, alloc: Global, func: &Func, out: &mut Buf) -> Result<(), Memory>
+        requires sizes { HasSizes self.now.set.now }
+        requires within { HasVarsWithin (length self.now.set.now.types) func.now }
+        requires shallow { self.now.depth ≤ 4 }
+        ensures put { OnOk result ((text : List ℕ) × (out.new ≡ out.old ++ text) × IsFuncText (context_of self.now.set.now self.now.snap.now.mem self.now.width) self.now.snap.now self.now.depth func.now text) }
+        ensures front { OnErr result (take (length out.old) out.new ≡ out.old) }
+    {
+        put_func_line(func, out)?;
+        self.put_scopes(alloc, func.scopes.as_slice(), out)
+    }
+
+    /// The lines of the scopes that have the program counter.
+    fn put_scopes(&self, alloc: Global, scopes: &[Scope], out: &mut Buf) -> Result<(), Memory>
+        requires sizes { HasSizes self.now.set.now }
+        requires within { All (VarsWithin (length self.now.set.now.types)) scopes.now }
+        requires shallow { self.now.depth ≤ 4 }
+        ensures put { OnOk result ((text : List ℕ) × (out.new ≡ out.old ++ text) × AreEach (AreVarLines (context_of self.now.set.now self.now.snap.now.mem self.now.width) self.now.snap.now self.now.depth) (filter (is_entered self.now.snap.now.pc) scopes.now) text) }
+        ensures front { OnErr result (take (length out.old) out.new ≡ out.old) }
+    {
+        for scope in scopes {
+            if is_entered(self.snap.pc, scope) {
+                self.put_vars(alloc, scope.vars.as_slice(), out)?;
+            }
+        }
+        Ok(())
+    }
+
+    /// A line for each variable.
+    fn put_vars(&self, alloc: Global, vars: &[Var], out: &mut Buf) -> Result<(), Memory>
+        requires sizes { HasSizes self.now.set.now }
+        requires within { All (VarWithin (length self.now.set.now.types)) vars.now }
+        requires shallow { self.now.depth ≤ 4 }
+        ensures put { OnOk result ((text : List ℕ) × (out.new ≡ out.old ++ text) × AreEach (IsVarLine (context_of self.now.set.now self.now.snap.now.mem self.now.width) self.now.snap.now self.now.depth) vars.now text) }
+        ensures front { OnErr result (take (length out.old) out.new ≡ out.old) }
+    {
+        for var in vars {
+            let outcome = self.outcome_of(alloc, var)?;
+            put_var(var, outcome, out)?;
+        }
+        Ok(())
+    }
+
+    /// What is shown of a variable.
+    fn outcome_of(&self, alloc: Global, var: &Var) -> Result<Outcome, Memory>
+        requires sizes { HasSizes self.now.set.now }
+        requires within { VarWithin (length self.now.set.now.types) var.now }
+        requires shallow { self.now.depth ≤ 4 }
+        ensures outcome { IfOk result (λ o. IsShownIn (context_of self.now.set.now self.now.snap.now.mem self.now.width) self.now.depth var.now.ty (place_of self.now.snap.now var.now.entries (size self.now.set.now.types var.now.ty)) o) }
+        ensures texts { IfOk result HasTexts }
+    {
+        let size = size_of(self.set, var.ty);
+        match locate(alloc, &var.entries, size, self.snap)? {
+            Some(located) => self.outcome_in(alloc, var.ty, located.image()),
+            None => Ok(Outcome::Unavailable),
         }
     }
-    Ok(())
 }
 
 /// Whether the body of the function has the program counter.
@@ -94,102 +139,13 @@ fn is_in(pc: u64, zone: Zone) -> bool
     zone.lo <= pc && pc < zone.hi
 }
 
-/// The line of a function, and those of each of its scopes that has the program counter.
-fn put_func(
-    alloc: Global,
-    set: &Set,
-    snap: &Snapshot,
-    func: &Func,
-    depth: u32,
-    width: u32,
-    out: &mut Buf,
-) -> Result<(), Memory>
-    requires sizes { HasSizes set.now }
-    requires within { HasVarsWithin (length set.now.types) func.now }
-    requires shallow { depth ≤ 4 }
-    ensures put { OnOk result ((text : List ℕ) × (out.new ≡ out.old ++ text) × IsFuncText (context_of set.now snap.now.mem width) snap.now depth func.now text) }
-    ensures front { OnErr result (take (length out.old) out.new ≡ out.old) }
-{
-    put_func_line(func, out)?;
-    put_scopes(alloc, set, snap, func.scopes.as_slice(), depth, width, out)
-}
-
 fn put_func_line(func: &Func, out: &mut Buf) -> Result<(), Memory>
     ensures put { OnOk result (out.new ≡ out.old ++ func_line func.now) }
     ensures front { OnErr result (take (length out.old) out.new ≡ out.old) }
 {
     out.put(b"fn ")?;
-    rust_spelling(&func.name, out)?;
+    put_name(&func.name, out)?;
     out.put(b"\n")
-}
-
-/// The lines of the scopes that have the program counter.
-fn put_scopes(
-    alloc: Global,
-    set: &Set,
-    snap: &Snapshot,
-    scopes: &[Scope],
-    depth: u32,
-    width: u32,
-    out: &mut Buf,
-) -> Result<(), Memory>
-    requires sizes { HasSizes set.now }
-    requires within { All (VarsWithin (length set.now.types)) scopes.now }
-    requires shallow { depth ≤ 4 }
-    ensures put { OnOk result ((text : List ℕ) × (out.new ≡ out.old ++ text) × AreEach (AreVarLines (context_of set.now snap.now.mem width) snap.now depth) (filter (is_entered snap.now.pc) scopes.now) text) }
-    ensures front { OnErr result (take (length out.old) out.new ≡ out.old) }
-{
-    for scope in scopes {
-        if is_entered(snap.pc, scope) {
-            put_vars(alloc, set, snap, scope.vars.as_slice(), depth, width, out)?;
-        }
-    }
-    Ok(())
-}
-
-/// A line for each variable.
-fn put_vars(
-    alloc: Global,
-    set: &Set,
-    snap: &Snapshot,
-    vars: &[Var],
-    depth: u32,
-    width: u32,
-    out: &mut Buf,
-) -> Result<(), Memory>
-    requires sizes { HasSizes set.now }
-    requires within { All (VarWithin (length set.now.types)) vars.now }
-    requires shallow { depth ≤ 4 }
-    ensures put { OnOk result ((text : List ℕ) × (out.new ≡ out.old ++ text) × AreEach (IsVarLine (context_of set.now snap.now.mem width) snap.now depth) vars.now text) }
-    ensures front { OnErr result (take (length out.old) out.new ≡ out.old) }
-{
-    for var in vars {
-        let outcome = outcome_of(alloc, set, snap, var, depth, width)?;
-        put_var(var, outcome, out)?;
-    }
-    Ok(())
-}
-
-/// What is shown of a variable.
-fn outcome_of(
-    alloc: Global,
-    set: &Set,
-    snap: &Snapshot,
-    var: &Var,
-    depth: u32,
-    width: u32,
-) -> Result<Outcome, Memory>
-    requires sizes { HasSizes set.now }
-    requires within { VarWithin (length set.now.types) var.now }
-    requires shallow { depth ≤ 4 }
-    ensures outcome { IfOk result (λ o. IsShownIn (context_of set.now snap.now.mem width) depth var.now.ty (place_of snap.now var.now.entries (size set.now.types var.now.ty)) o) }
-    ensures texts { IfOk result HasTexts }
-{
-    let size = size_of(set, var.ty);
-    match locate(alloc, &var.entries, size, snap)? {
-        Some(located) => read_value(alloc, set, var.ty, located.image(), &snap.mem, depth, width),
-        None => Ok(Outcome::Unavailable),
-    }
 }
 
 fn put_var(var: &Var, outcome: Outcome, out: &mut Buf) -> Result<(), Memory>

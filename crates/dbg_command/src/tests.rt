@@ -1,4 +1,6 @@
 //! Whole runs over files and sinks in memory. The wanted texts are computed by hand from the documents.
+mod shown_lines;
+
 use super::*;
 use rv_io::{Buf, Fail as FailingPut, File, List, MemInputs, MemSink, Memory, Text};
 use std::alloc::Global;
@@ -73,13 +75,13 @@ const TEXT: [&[u8]; 3] = [b"text", b"l", b"s"];
 const CHECK: [&[u8]; 2] = [b"check", b"l"];
 
 const FIVE: &str =
-    "rdbg-layout 1\ntarget 8\nstatic 0x1000 u32 A\nstatic 0x1004 u128 B\nstatic 0x1014 i128 C\nstatic 0x1024 f32 D\nstatic 0x1028 char demo::E\n";
+    "rdbg-layout 1\ntarget 8\nstatic 0x1000 u32 A\nstatic 0x1004 u128 B\nstatic 0x1014 i128 C\nstatic 0x1024 f32 D\nstatic 0x1028 char E\n";
 
 const FIVE_SNAPSHOT: &str =
     "rdbg-snapshot 1\npc 0x0\nmem 0x1000 01000000ffffffffffffffffffffffffffffffff000000000000000000000000000000800000803f61000000\n";
 
 const FIVE_ANSWER: &str =
-    "pc 0x0\nstatic A = 1\nstatic B = 340282366920938463463374607431768211455\nstatic C = -170141183460469231731687303715884105728\nstatic D = f32 0x3f800000\nstatic demo::E = 'a'\n";
+    "pc 0x0\nstatic A = 1\nstatic B = 340282366920938463463374607431768211455\nstatic C = -170141183460469231731687303715884105728\nstatic D = f32 0x3f800000\nstatic E = 'a'\n";
 
 #[test]
 fn statics_are_printed_over_a_snapshot(rt: HostRuntime) -> Result<(), Fail> {
@@ -111,246 +113,13 @@ fn statics_are_printed_over_a_snapshot(rt: HostRuntime) -> Result<(), Fail> {
     Ok(())
 }
 
-/// A layout and its snapshot without their first lines, a depth and a width, and the lines after the pc's.
-type Shown = (
-    &'static str,
-    &'static str,
-    &'static str,
-    &'static str,
-    &'static str,
-);
-
-/// A struct of a bool and a byte.
-const PAIR: &str =
-    "type 0 struct 2 1 demo::P\nfield a 0 bool\nfield b 1 u8\nstatic 0x1000 #0 demo::S\n";
-
-/// An enum whose span goes on from 0.
-const OPTION: &str =
-    "type 0 enum 1 1 core::option::Option<bool>\ntag 0 u8\nvariant None exact 2\nvariant Some span 3 1\nfield __0 0 bool\nstatic 0x1000 #0 demo::O\n";
-
-/// A slice of bytes.
-const SLICE: &str = "type 0 thin mut u8\ntype 1 slice ref #0 &[u8]\nstatic 0x1000 #1 demo::S\n";
-
-const SLICE_LINES: &str = "mem 0x1000 00300000000000006400000000000000\nmem 0x3000 0708\n";
-
-const STR: &str = "type 0 thin mut u8\ntype 1 str ref #0 &str\nstatic 0x1000 #1 demo::T\n";
-
-/// Nodes, of which the first leads to the second, and the second to the first.
-const NODE: &str =
-    "type 0 thin ref #1\ntype 1 struct 16 8 demo::Node\nfield val 0 u32\nfield next 8 #2\ntype 2 enum 8 8 core::option::Option<&demo::Node>\ntag 0 u64\nvariant None exact 0\nvariant Some span 1 18446744073709551615\nfield __0 0 #0\nstatic 0x1000 #1 demo::N\n";
-
-const NODE_LINES: &str =
-    "mem 0x1000 01000000000000001010000000000000\nmem 0x1010 02000000000000000010000000000000\n";
-
-const SHOWN: [Shown; 22] = [
-    (
-        PAIR,
-        "mem 0x1000 02\n",
-        "0",
-        "1",
-        "static demo::S = <unavailable>\n",
-    ),
-    (
-        PAIR,
-        "mem 0x1000 0200\n",
-        "0",
-        "1",
-        "static demo::S = <invalid>\n",
-    ),
-    (
-        PAIR,
-        "mem 0x1000 01\nmem 0x1001 07\n",
-        "0",
-        "1",
-        "static demo::S = {a: true, b: 7}\n",
-    ),
-    (
-        OPTION,
-        "mem 0x1000 00\n",
-        "0",
-        "1",
-        "static demo::O = Some(false)\n",
-    ),
-    (
-        OPTION,
-        "mem 0x1000 01\n",
-        "4",
-        "256",
-        "static demo::O = Some(true)\n",
-    ),
-    (
-        OPTION,
-        "mem 0x1000 02\n",
-        "0",
-        "1",
-        "static demo::O = None\n",
-    ),
-    (
-        OPTION,
-        "mem 0x1000 03\n",
-        "0",
-        "1",
-        "static demo::O = <invalid>\n",
-    ),
-    (
-        OPTION,
-        "mem 0x1001 03\n",
-        "0",
-        "1",
-        "static demo::O = <unavailable>\n",
-    ),
-    (
-        SLICE,
-        SLICE_LINES,
-        "1",
-        "2",
-        "static demo::S = &[0x3000; 100] -> [7, 8, .. 98 more]\n",
-    ),
-    (
-        SLICE,
-        SLICE_LINES,
-        "1",
-        "3",
-        "static demo::S = <unavailable>\n",
-    ),
-    (
-        SLICE,
-        SLICE_LINES,
-        "0",
-        "3",
-        "static demo::S = &[0x3000; 100]\n",
-    ),
-    (
-        STR,
-        "mem 0x1000 00300000000000000200000000000000\nmem 0x3000 c3a9\n",
-        "1",
-        "1",
-        "static demo::T = &str[0x3000; 2] -> \"\\u{e9}\"\n",
-    ),
-    (
-        STR,
-        "mem 0x1000 00300000000000000100000000000000\nmem 0x3000 ff\n",
-        "1",
-        "1",
-        "static demo::T = <invalid>\n",
-    ),
-    (
-        STR,
-        "mem 0x1000 01000000000000000000000000000000\n",
-        "2",
-        "32",
-        "static demo::T = &str[0x1; 0] -> \"\"\n",
-    ),
-    (
-        STR,
-        "mem 0x1000 00300000000000007011010000000000\n",
-        "2",
-        "32",
-        "static demo::T = <too large>\n",
-    ),
-    (
-        STR,
-        "mem 0x1000 0030000000000000ffff000000000000\n",
-        "2",
-        "32",
-        "static demo::T = <unavailable>\n",
-    ),
-    (
-        NODE,
-        NODE_LINES,
-        "0",
-        "32",
-        "static demo::N = {val: 1, next: Some(&0x1010)}\n",
-    ),
-    (
-        NODE,
-        NODE_LINES,
-        "1",
-        "32",
-        "static demo::N = {val: 1, next: Some(&0x1010 -> {val: 2, next: Some(&0x1000)})}\n",
-    ),
-    (
-        NODE,
-        NODE_LINES,
-        "2",
-        "32",
-        "static demo::N = {val: 1, next: Some(&0x1010 -> {val: 2, next: Some(&0x1000 -> {val: 1, next: Some(&0x1010)})})}\n",
-    ),
-    (
-        "type 0 enum 16 16 demo::W\ntag 0 u128\nvariant Lo exact 1\nvariant Hi exact 18446744073709551617\nstatic 0x1000 #0 demo::V\nstatic 0x1010 #0 demo::X\n",
-        "mem 0x1000 0100000000000000010000000000000001000000000000000000000000000000\n",
-        "0",
-        "1",
-        "static demo::V = Hi\nstatic demo::X = Lo\n",
-    ),
-    (
-        "type 0 clike i8 demo::C\ncase A 255\ncase B 7\ntype 1 array 3 #0\nstatic 0x1000 #1 demo::V\nstatic 0x1002 #0 demo::W\n",
-        "mem 0x1000 ff0708\n",
-        "0",
-        "2",
-        "static demo::V = [A, B, .. 1 more]\nstatic demo::W = <invalid>\n",
-    ),
-    (
-        "type 0 thin ref u8\nstatic 0x1000 #0 demo::R\nstatic 0x1008 #0 demo::S\n",
-        "mem 0x1000 00000000000000000010000000000000\n",
-        "2",
-        "1",
-        "static demo::R = <invalid>\nstatic demo::S = &0x1000 -> 0\n",
-    ),
-];
-
-/// The text of two parts.
-fn joined(alloc: Global, front: &[u8], back: &str) -> Result<Text, Memory> {
-    let mut text = Buf::new(alloc);
-    text.put(front)?;
-    text.put(back.as_bytes())?;
-    Text::from_bytes(alloc, text.as_bytes())
-}
-
-/// The files `l` and `s` with their first lines.
-fn shown_inputs(alloc: Global, layout: &str, snapshot: &str) -> Result<MemInputs, Memory> {
-    let mut files = List::new(alloc);
-    files.push(File {
-        name: Text::from_bytes(alloc, b"l")?,
-        bytes: joined(alloc, b"rdbg-layout 1\ntarget 8\n", layout)?,
-    })?;
-    files.push(File {
-        name: Text::from_bytes(alloc, b"s")?,
-        bytes: joined(alloc, b"rdbg-snapshot 1\npc 0x0\n", snapshot)?,
-    })?;
-    Ok(MemInputs::new(files, List::new(alloc)))
-}
-
-#[test]
-fn statics_of_every_type_are_printed(rt: HostRuntime) -> Result<(), Fail> {
-    for (layout, snapshot, depth, width, wanted) in SHOWN {
-        let all: [&[u8]; 7] = [
-            b"text",
-            b"l",
-            b"s",
-            b"--depth",
-            depth.as_bytes(),
-            b"--width",
-            width.as_bytes(),
-        ];
-        let inputs = shown_inputs(rt.alloc(), layout, snapshot)?;
-        let ended = ran(rt.alloc(), &all, inputs, sink(rt.alloc(), None)?)?;
-        let wanted = joined(rt.alloc(), b"pc 0x0\n", wanted)?;
-        assert_eq!(rt; ended.err.written(), b"".as_slice());
-        assert_eq!(rt; ended.out.written(), wanted.as_bytes());
-        assert_eq!(rt; ended.status, 0);
-    }
-    Ok(())
-}
-
 #[test]
 fn a_text_is_shown_at_depth_2_and_width_32(rt: HostRuntime) -> Result<(), Fail> {
-    let inputs = shown_inputs(
+    let ended = printed(
         rt.alloc(),
-        "type 0 thin ref u8\ntype 1 thin ref #0\ntype 2 thin ref #1\ntype 3 array 34 u8\nstatic 0x1000 #2 A\nstatic 0x1010 #3 B\n",
-        "mem 0x1000 00100000000000000000000000000000\nmem 0x1010 0101010101010101010101010101010101010101010101010101010101010101\n",
+        "rdbg-layout 1\ntarget 8\ntype 0 thin ref u8\ntype 1 thin ref #0\ntype 2 thin ref #1\ntype 3 array 34 u8\nstatic 0x1000 #2 A\nstatic 0x1010 #3 B\n",
+        "rdbg-snapshot 1\npc 0x0\nmem 0x1000 00100000000000000000000000000000\nmem 0x1010 0101010101010101010101010101010101010101010101010101010101010101\n",
     )?;
-    let ended = ran(rt.alloc(), &TEXT, inputs, sink(rt.alloc(), None)?)?;
     assert_eq!(rt; ended.err.written(), b"".as_slice());
     assert_eq!(rt;
         ended.out.written(),

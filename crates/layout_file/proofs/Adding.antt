@@ -1,11 +1,11 @@
 -- What a set, and the entry that stands open behind it, have with one line more: their lines and their counts.
-use Rattle.std.proofs.Common.{◌≡◌, ◌≢◌, ◌∙◌, sym, ap, subst, refl, ℕ, ◌+◌, ◌<◌, ◌≤◌, ◌==◌, ◌&&◌, not, Bool, true, false, if◌then◌else◌, cond, List, [], ◌∷◌, ◌++◌, length, map, append_assoc, Option, Some, None, IfSome, arith}
+use Rattle.std.proofs.Common.{◌≡◌, ◌≢◌, ◌∙◌, sym, ap, subst, refl, ℕ, ◌+◌, ◌<◌, ◌≤◌, ◌==◌, ◌&&◌, Bool, true, false, if◌then◌else◌, List, [], ◌∷◌, ◌++◌, length, map, append_assoc, Option, Some, None, IfSome, arith}
 use Rattle.std.proofs.lemmas.Grind.{flat_map-append}
 use Rattle.std.proofs.lemmas.List.{append-nil, length-append}
 use Rattle.std.proofs.lemmas.Bool.{not-true, eqb-true, eq-eqb}
 use Rattle.std.proofs.lemmas.List.Sums.{sum_by-append, sum_by-cons}
-use Rattle.std.specs.List.{flat_map, sum_by}
-use Rattle.layout_model.specs.Counts.{parts_of, piece_parts, entry_parts, func_parts, func_vars, part_count, variable_count}
+use Rattle.std.specs.List.{flat_map}
+use Rattle.layout_model.specs.Counts.{parts_of, piece_parts, entry_parts, part_count, variable_count}
 use Rattle.layout_model.specs.declared.func.Entry.{Entry}
 use Rattle.layout_model.specs.declared.func.Func.{Func}
 use Rattle.layout_model.specs.declared.func.Loc.TheVariants.{Whole}
@@ -18,7 +18,7 @@ use Rattle.layout_file.specs.declared.open_entry.OpenEntry.{OpenEntry}
 use Rattle.layout_file.specs.declared.line.Line.{Line}
 use Rattle.layout_file.specs.declared.line.Line.TheVariants as lines
 use Rattle.layout_file.specs.Lines.{kind_of_line, IsLine}
-use Rattle.layout_file.specs.Sets.{type_lines, func_lines, entry_lines, open_lines, open_parts, lines_of, lines_before, last_of, last_may_go_on, last_scope, has_scopes, has_vars, may_follow, may_follow_set, is_empty, is_piece, IsOpenEntry}
+use Rattle.layout_file.specs.Sets.{type_lines, func_lines, entry_lines, open_lines, open_parts, lines_of, lines_before, last_of, last_may_go_on, last_scope, has_scopes, has_vars, may_follow, may_follow_set, is_empty, is_piece}
 use Rattle.layout_file.specs.Additions.{Draft, with_last, with_part, with_scope, with_var_in_func, with_entry_in_func, entry_added, closed, settled, added}
 use Rattle.layout_file.specs.Claims.{line_types, line_parts, line_variables}
 use Rattle.layout_file.proofs.LastItems.{length_with_last}

@@ -1,22 +1,21 @@
 -- A file that spells a set has no fault.
-use Rattle.std.proofs.Common.{◌≡◌, ◌∙◌, sym, ap, subst, refl, ℕ, ◌+◌, ◌<◌, ◌≤◌, ◌^◌, true, List, [], ◌∷◌, ◌++◌, length, Option, Some, None, Err, lit≤, arith}
+use Rattle.std.proofs.Common.{◌≡◌, ◌∙◌, sym, ap, subst, refl, ℕ, ◌<◌, ◌≤◌, ◌^◌, true, List, [], ◌∷◌, ◌++◌, length, None, Err, lit≤, arith}
 use Rattle.std.proofs.lemmas.List.Elements.{All-head, All-tail}
 use Rattle.std.specs.List.{All}
 use Rattle.readers.specs.Lines.{Lacks, CutAt, with_end}
 use Rattle.readers.proofs.Cutting.{one_cut}
 use Rattle.layout_model.specs.Counts.{part_count, variable_count}
 use Rattle.layout_model.specs.declared.set.Set.{Set}
-use Rattle.layout_file.specs.declared.open_entry.OpenEntry.{OpenEntry}
 use Rattle.layout_file.specs.declared.line.Line.{Line}
 use Rattle.layout_file.specs.declared.layout_err.Count.{Count}
 use Rattle.layout_file.specs.declared.layout_err.Count.TheVariants.{Types, Parts, Variables}
 use Rattle.layout_file.specs.declared.layout_err.LayoutErr.{LayoutErr}
 use Rattle.layout_file.specs.declared.layout_err.LayoutErr.TheVariants.{BadLine, Limit, Memory}
 use Rattle.layout_file.specs.Lines.{kind_of_line, line_text, IsLine}
-use Rattle.layout_file.specs.Sets.{lines_of, texts, number_after, may_follow, version_text, target_text, Spells, IsBoundedBefore}
+use Rattle.layout_file.specs.Sets.{lines_of, texts, number_after, may_follow, version_text, target_text, Spells}
 use Rattle.layout_file.specs.Additions.{Draft, added}
 use Rattle.layout_file.specs.Faults.{Front, first, second, behind}
-use Rattle.layout_file.specs.Claims.{IsBefore, IsWhole, IsEndless, MustGoOn, SpellsNone, Breaks, whole, endless, missing, Passes, IsReading}
+use Rattle.layout_file.specs.Claims.{IsBefore, IsWhole, MustGoOn, SpellsNone, Breaks, whole, endless, missing, Passes, IsReading}
 use Rattle.layout_file.proofs.Adding.{Advance, IsReady, advances}
 use Rattle.layout_file.proofs.Leading.{Leads}
 use Rattle.layout_file.proofs.Heads.{begins_line, version_lacks, target_lacks, head_cut, same_line, lf_in}

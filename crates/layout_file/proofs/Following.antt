@@ -1,5 +1,5 @@
 -- The text of a set is that of no other, and goes on from the text of another by lines that may follow.
-use Rattle.std.proofs.Common.{◌≡◌, ◌∙◌, sym, ap, subst, refl, ℕ, ◌+◌, ◌<◌, ◌≤◌, ◌^◌, Bool, true, false, if◌then◌else◌, List, [], ◌∷◌, ◌++◌, length, append_assoc, Option, Some, None, IfSome, lit≤, arith}
+use Rattle.std.proofs.Common.{◌≡◌, ◌∙◌, sym, ap, subst, refl, ℕ, ◌+◌, ◌<◌, ◌≤◌, ◌^◌, List, [], ◌∷◌, ◌++◌, length, append_assoc, Option, Some, None, IfSome, lit≤, arith}
 use Rattle.std.proofs.lemmas.List.{append-nil}
 use Rattle.std.proofs.lemmas.List.Elements.{All-head, All-tail, All-append}
 use Rattle.std.specs.List.{All}
@@ -9,11 +9,11 @@ use Rattle.layout_model.specs.declared.set.Set.{Set}
 use Rattle.layout_file.specs.declared.open_entry.OpenEntry.{OpenEntry}
 use Rattle.layout_file.specs.declared.line.Line.{Line}
 use Rattle.layout_file.specs.declared.line.Line.TheVariants as lines
-use Rattle.layout_file.specs.Lines.{kind_of_line, line_text, IsLine}
-use Rattle.layout_file.specs.Sets.{lines_of, lines_before, open_lines, open_parts, texts, number_after, may_follow, head_text, text_before, layout_text, IsOpenEntry, Spells, SpellsBefore}
+use Rattle.layout_file.specs.Lines.{line_text, IsLine}
+use Rattle.layout_file.specs.Sets.{lines_of, lines_before, open_lines, open_parts, texts, number_after, head_text, layout_text, IsOpenEntry, Spells, SpellsBefore}
 use Rattle.layout_file.specs.Additions.{Draft, added}
 use Rattle.layout_file.specs.Claims.{line_types}
-use Rattle.layout_file.proofs.Adding.{Advance, Stands, IsReady, advances}
+use Rattle.layout_file.proofs.Adding.{Advance, IsReady, advances}
 use Rattle.layout_file.proofs.FuncTexts.{text_before_is}
 use Rattle.layout_file.proofs.Leading.{Leads, empty_set}
 use Rattle.layout_file.proofs.FuncLeading.{lines_lead, lines_before_lead}

@@ -1,5 +1,5 @@
 -- The lines of functions, and of an entry that stands open, lead to the set with them.
-use Rattle.std.proofs.Common.{◌≡◌, ◌∙◌, sym, ap, subst, refl, ℕ, suc, ◌+◌, ◌<◌, not, Bool, true, false, if◌then◌else◌, List, [], ◌∷◌, ◌++◌, length, map, append_assoc, Option, Some, None, arith}
+use Rattle.std.proofs.Common.{◌≡◌, ◌∙◌, sym, ap, subst, refl, ℕ, ◌<◌, not, Bool, true, false, if◌then◌else◌, List, [], ◌∷◌, ◌++◌, length, map, append_assoc, Option, Some, None, arith}
 use Rattle.std.proofs.lemmas.List.{append-nil, length-append}
 use Rattle.std.specs.List.{flat_map}
 use Rattle.layout_model.specs.declared.func.Entry.{Entry}
@@ -12,10 +12,9 @@ use Rattle.layout_model.specs.declared.func.Var.{Var}
 use Rattle.layout_model.specs.declared.set.Set.{Set}
 use Rattle.layout_file.specs.declared.kinds.LineKind.TheVariants as firsts
 use Rattle.layout_file.specs.declared.open_entry.OpenEntry.{OpenEntry}
-use Rattle.layout_file.specs.declared.line.Line.{Line}
 use Rattle.layout_file.specs.declared.line.Line.TheVariants as lines
-use Rattle.layout_file.specs.Sets.{type_lines, loc_lines, entry_lines, var_lines, scope_lines, func_lines, open_lines, lines_of, lines_before, last_of, last_scope, has_scopes, has_vars, may_follow, is_empty}
-use Rattle.layout_file.specs.Additions.{Draft, with_last, with_entry, with_var, with_scope, with_entry_in_scope, with_entry_in_func, with_var_in_func, entry_added, settled, added}
+use Rattle.layout_file.specs.Sets.{type_lines, loc_lines, entry_lines, var_lines, scope_lines, func_lines, open_lines, lines_of, lines_before, last_of, last_scope, has_scopes, has_vars, may_follow}
+use Rattle.layout_file.specs.Additions.{Draft, with_entry, with_var, with_scope, with_entry_in_scope, with_entry_in_func, with_var_in_func, entry_added, settled, added}
 use Rattle.layout_file.proofs.LastItems.{with_last_end, last_of_end, some_end}
 use Rattle.layout_file.proofs.Adding.{Stands, IsReady, settled_closed, settled_open}
 use Rattle.layout_file.proofs.Leading.{Leads, leads_both, each_leads, shift, empty_set, types_lead}

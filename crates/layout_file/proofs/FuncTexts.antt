@@ -3,7 +3,6 @@ use Rattle.std.proofs.Common.{◌≡◌, ◌∙◌, sym, ap, refl, ℕ, ◌+◌,
 use Rattle.std.proofs.lemmas.List.{append-nil}
 use Rattle.std.specs.List.{flat_map}
 use Rattle.readers.specs.Lines.{with_end}
-use Rattle.layout_model.specs.declared.func.Entry.{Entry}
 use Rattle.layout_model.specs.declared.func.Func.{Func}
 use Rattle.layout_model.specs.declared.func.Loc.{Loc}
 use Rattle.layout_model.specs.declared.func.Loc.TheVariants.{Whole, Pieces}

@@ -11,7 +11,8 @@ use Rattle.layout_file.specs.Kinds.{line_kind_of}
 use Rattle.layout_file.specs.Spellings.{number}
 use Rattle.layout_file.specs.Forms.{Left, Form, cut, behind, nothing}
 use Rattle.layout_file.specs.Sets.{version_text, target_text}
-use Rattle.layout_file.specs.Faults.{first, second, fits, lowest_broken, rule_of_words, rule_of_kind, rule_of}
+use Rattle.layout_file.specs.Faults.{first, second, fits}
+use Rattle.layout_file.specs.LineRules.{lowest_broken, rule_of_words, rule_of_kind, rule_of}
 use Rattle.layout_file.specs.Heads.{version, version_form, target_form, behind_word, version_of, target_of}
 use Rattle.layout_file.proofs.Cuts.{cut_joins, cut_behind}
 use Rattle.layout_file.proofs.Lacking.{free_lacks}

@@ -17,6 +17,8 @@ pub mod OpLaws
 pub mod WordLists
 pub mod FuncLaws
 pub mod LineLaws
+pub mod LowestItems
+pub mod LowestLines
 pub mod Unfit
 pub mod NameEnds
 pub mod LineEnds
@@ -37,5 +39,12 @@ pub mod HeadLaws
 pub mod NoneSpelled
 pub mod KnownLines
 pub mod IsSets
+pub mod Named
+pub mod EachLine
+pub mod TypeLines
 pub mod LowestWords
 pub mod OneFault
+pub mod EveryLine
+pub mod EveryFile
+pub mod FuncLines
+pub mod ReadBack

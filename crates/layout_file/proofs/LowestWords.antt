@@ -1,6 +1,6 @@
 -- The lowest rule that words break, one word after the other.
-use Rattle.std.proofs.Common.{◌≡◌, ◌∙◌, sym, ap, refl, ℕ, min, List, ◌∷◌, Option, Some, None, arith}
-use Rattle.layout_file.specs.Faults.{lower, lowest_of}
+use Rattle.std.proofs.Common.{◌≡◌, ◌∙◌, sym, ap, refl, ℕ, min, List, Option, Some, None, arith}
+use Rattle.layout_file.specs.LineRules.{lower, lowest_of}
 use Rattle.layout_file.specs.Forms.{Left, cut, words, left_words}
 use Rattle.layout_file.proofs.WordLists.{words_are}
 

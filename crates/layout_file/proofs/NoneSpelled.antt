@@ -10,7 +10,8 @@ use Rattle.layout_file.specs.Forms.{cut}
 use Rattle.layout_file.specs.Lines.{line_rest, kind_of_line}
 use Rattle.layout_file.specs.ReadLines.{line_of}
 use Rattle.layout_file.specs.Sets.{may_follow}
-use Rattle.layout_file.specs.Faults.{first, second, behind, may_stand, rule_of}
+use Rattle.layout_file.specs.Faults.{first, second, behind}
+use Rattle.layout_file.specs.LineRules.{may_stand, rule_of}
 use Rattle.layout_file.specs.Claims.{SpellsNone}
 use Rattle.layout_file.specs.Heads.{version_of, target_of}
 use Rattle.layout_file.proofs.Cuts.{cut_behind}

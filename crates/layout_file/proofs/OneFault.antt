@@ -2,7 +2,6 @@
 use Rattle.std.proofs.Common.{◌≡◌, ◌∙◌, sym, ap, subst, refl, ℕ, ◌+◌, ◌-◌, ◌<◌, ◌^◌, min, true, List, [], ◌∷◌, ◌++◌, length, append_assoc, Option, None, arith}
 use Rattle.std.proofs.lemmas.List.{append_cancel_left}
 use Rattle.std.proofs.lemmas.List.Elements.{All-head, All-tail}
-use Rattle.std.proofs.lemmas.Option.{same_Some}
 use Rattle.std.specs.List.{All}
 use Rattle.readers.specs.Lines.{Lacks, CutAt, with_end}
 use Rattle.readers.proofs.Cutting.{one_cut}
@@ -16,7 +15,7 @@ use Rattle.layout_file.specs.declared.layout_err.LayoutErr.TheVariants.{BadLine,
 use Rattle.layout_file.specs.Lines.{kind_of_line, line_text, IsLine}
 use Rattle.layout_file.specs.Sets.{lines_before, texts, number_after, may_follow, head_text, version_text, target_text, SpellsBefore, IsBoundedBefore}
 use Rattle.layout_file.specs.Additions.{Draft, added}
-use Rattle.layout_file.specs.Faults.{Front, first, second, behind, rule_of}
+use Rattle.layout_file.specs.Faults.{Front, first, second, behind, BreaksLine, IsLowest}
 use Rattle.layout_file.specs.Claims.{IsBefore, IsWhole, SpellsNone, Breaks, whole, endless, missing, line_types, line_parts, line_variables, Passes, IsFault, IsLimit, HaveOneFault}
 use Rattle.layout_file.proofs.Adding.{Advance, IsReady, advances}
 use Rattle.layout_file.proofs.FuncTexts.{text_before_is}
@@ -25,6 +24,7 @@ use Rattle.layout_file.proofs.FuncLeading.{lines_before_lead}
 use Rattle.layout_file.proofs.Heads.{begins_line, same_line, same_head, version_lacks, target_lacks, head_cut, lf_in}
 use Rattle.layout_file.proofs.Following.{LinesAreKnown, Grows, lines_grow, next_number, is_ready, before_are_lines}
 use Rattle.layout_file.proofs.Faultless.{more, nothing_cut, no_break, few}
+use Rattle.layout_file.proofs.LowestLines.{one_lowest}
 
 -- with the line there are not too many of anything
 abbrev Within : Front → List ℕ → Type 0
@@ -172,7 +172,9 @@ compared K (behind a x) (behind b y) u v s t m n e h k =
 
 -- one rule is the lowest that is broken at a front
 one_rule : (f : Front) (t : List ℕ) (r q : ℕ) → Breaks f t r → Breaks f t q → r ≡ q
-one_rule f t r q (whole l w none e) (whole m v also d) = same_Some r q (sym e ∙ ap (rule_of f) (one_cut 10 t l m w.0 v.0 w.1 v.1).0 ∙ d)
+one_rule f t r q (whole l w none e) (whole m v also d) =
+    let same = one_cut 10 t l m w.0 v.0 w.1 v.1 in
+    one_lowest (BreaksLine f m) r q (subst (λ x. IsLowest (BreaksLine f x) r) same.0 e) d
 one_rule f t r q (whole l w none e) (endless en d) = absurd (lf_in l w.0 (subst (Lacks 10) w.1.text en.1))
 one_rule f t r q (whole l w none e) (missing m must d) = absurd (nothing_cut l w.0 (subst (λ z. CutAt 10 z l w.0) m w.1))
 one_rule f t r q (endless en e) (whole m v also d) = absurd (lf_in m v.0 (subst (Lacks 10) v.1.text en.1))

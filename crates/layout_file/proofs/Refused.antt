@@ -1,21 +1,21 @@
 -- What a refused line, or a line more, says of the whole file.
-use Rattle.std.proofs.Common.{◌≡◌, ◌≢◌, ℕ, ◌+◌, ◌-◌, ◌<◌, ◌≤◌, ◌^◌, min, true, false, is_none, List, [], ◌∷◌, ◌++◌, inl, inr, length, Option, Some, None, IsSome, Err, sym, ap, subst, refl, ◌∙◌, arith, append_assoc, append-nil}
+use Rattle.std.proofs.Common.{◌≡◌, ◌≢◌, ℕ, ◌+◌, ◌-◌, ◌<◌, ◌^◌, min, List, [], ◌∷◌, ◌++◌, inl, inr, length, Option, Some, None, IsSome, Err, sym, ap, subst, refl, ◌∙◌, arith, append_assoc, append-nil}
 use Rattle.readers.specs.Lines.{Lacks, CutAt, with_end}
 use Rattle.layout_model.specs.declared.set.Set.{Set}
 use Rattle.layout_file.specs.declared.open_entry.OpenEntry.{OpenEntry}
 use Rattle.layout_file.specs.declared.reader.Reading.{Reading}
 use Rattle.layout_file.specs.declared.layout_err.LayoutErr.{LayoutErr}
 use Rattle.layout_file.specs.declared.layout_err.LayoutErr.TheVariants.{BadLine, Limit, Memory}
-use Rattle.layout_file.specs.Lines.{line_text}
-use Rattle.layout_file.specs.Sets.{lines_of, lines_before, layout_text, text_before, Spells, IsBoundedBefore}
+use Rattle.layout_file.specs.Sets.{lines_before, layout_text, text_before, Spells, IsBoundedBefore}
 use Rattle.layout_file.specs.Additions.{added}
 use Rattle.layout_file.specs.Faults.{Front, behind}
 use Rattle.layout_file.specs.Claims.{IsBefore, MustGoOn, IsReading, whole, endless, missing}
-use Rattle.layout_file.specs.Progress.{IsState, HasRead, Refuses, RefusesEnd, RefusesLine, Goes}
+use Rattle.layout_file.specs.Progress.{HasRead, Refuses, RefusesEnd, RefusesLine, Goes}
 use Rattle.layout_file.specs.Heads.{RefusesFirst}
 use Rattle.layout_file.proofs.Adding.{advances}
 use Rattle.layout_file.proofs.FuncTexts.{advance_text}
 use Rattle.layout_file.proofs.Following.{is_ready}
+use Rattle.layout_file.proofs.LowestLines.{is_lowest}
 
 abbrev most : ℕ
 most = 2 ^ 32 - 1
@@ -24,7 +24,7 @@ most = 2 ^ 32 - 1
 pub refused_at : (front : Front) (bytes before left line more : List ℕ) (count lines : ℕ) (e : LayoutErr) → bytes ≡ before ++ left → IsBefore front before count
     → lines ≡ min count most → CutAt 10 left line more → Refuses front lines line e → IsReading bytes (Err e)
 refused_at front bytes before left line more count lines (BadLine n rule) b is l cut why =
-    record { front = front; before = before; text = left; count = count; bytes_are = b; is_before = is; breaks = whole line (more, cut) why.0 why.1.0; number = omega (arith, why.1.1, l) }
+    record { front = front; before = before; text = left; count = count; bytes_are = b; is_before = is; breaks = whole line (more, cut) why.0 (is_lowest front line rule why.1.0); number = omega (arith, why.1.1, l) }
 refused_at front bytes before left line more count lines (Limit which) b is l cut why = absurd why
 refused_at front bytes before left line more count lines Memory b is l cut why = tt
 

@@ -1,5 +1,5 @@
 -- A line that spells nothing which may stand there breaks a rule.
-use Rattle.std.proofs.Common.{◌≡◌, ◌≢◌, ◌∙◌, sym, ap, subst, refl, ℕ, ◌<◌, ◌≤◌, Bool, true, false, cond, ◌==◌, List, [], ◌∷◌, length, drop, min, Option, Some, None, Ok, arith, lit≤}
+use Rattle.std.proofs.Common.{◌≡◌, ◌≢◌, ◌∙◌, sym, ap, subst, refl, ℕ, ◌≤◌, Bool, true, false, cond, ◌==◌, List, [], ◌∷◌, length, drop, min, Option, Some, None, Ok, arith, lit≤}
 use Rattle.std.specs.Option.{option_map}
 use Rattle.std.specs.Str.{is_utf8}
 use Rattle.readers.specs.Hex.{hex_of}
@@ -26,7 +26,8 @@ use Rattle.layout_file.specs.PlaceSpellings.{register, frame, frame_of, hex, sig
 use Rattle.layout_file.specs.Forms.{Left, Form, cut, take_word, nothing, nothing_of, ◌·◌, rest, words, each_of, many, operations, operations_of}
 use Rattle.layout_file.specs.Lines.{func_form, scope_form, reg_form, mem_form, fixed_form, value_form, count_form, param_form, field_form, case_form, tag_form, static_form, sized_form, array_form, thin_form, fat_form, dyn_form, clike_form, exact_form, span_form}
 use Rattle.layout_file.specs.ReadLines.{type_of, selector_of, type_line_of, variant_of, place_of, entry_of, at_of, piece_place_of, piece_of, rest_of, line_of}
-use Rattle.layout_file.specs.Faults.{Front, behind, may_stand, next_number, unless, not_next, broken, is_optional, lower, lowest_of, broken_zone, broken_op, lowest_broken, fits, type_slots, selector_slots, place_slots, first_word, second_word, places_if, places_by, places_of, rule_of_words, rule_of_kind, rule_of}
+use Rattle.layout_file.specs.Faults.{Front, behind, next_number, is_optional, fits, type_slots, selector_slots, place_slots, first_word, second_word, places_if, places_by, places_of}
+use Rattle.layout_file.specs.LineRules.{may_stand, unless, not_next, broken, lower, lowest_of, broken_zone, broken_op, lowest_broken, rule_of_words, rule_of_kind, rule_of}
 use Rattle.layout_file.proofs.PlaceLaws.{entry_kind_law, piece_kind_law}
 
 -- a rule is broken

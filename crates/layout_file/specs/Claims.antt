@@ -1,5 +1,5 @@
 -- What a file is as a layout: the text of one set, or where it stops being one.
-use Rattle.std.specs.Prelude.{◌≡◌, ◌≢◌, ◌⊎◌, ℕ, ◌+◌, ◌-◌, ◌^◌, ◌<◌, min, true, List, [], ◌++◌, length, Option, Some, None, Result, Ok, Err}
+use Rattle.std.specs.Prelude.{◌≡◌, ◌≢◌, ◌⊎◌, ℕ, ◌+◌, ◌-◌, ◌^◌, ◌<◌, min, true, List, [], ◌++◌, length, Option, None, Result, Ok, Err}
 use Rattle.readers.specs.Lines.{Lacks, CutAt, with_end}
 use Rattle.layout_model.specs.Counts.{place_parts, piece_parts, part_count, variable_count}
 use Rattle.layout_model.specs.declared.set.Set.{Set}
@@ -12,7 +12,7 @@ use Rattle.layout_file.specs.declared.layout_err.LayoutErr.TheVariants.{BadLine,
 use Rattle.layout_file.specs.Lines.{line_text, kind_of_line, IsLine}
 use Rattle.layout_file.specs.declared.open_entry.OpenEntry.{OpenEntry}
 use Rattle.layout_file.specs.Sets.{lines_before, version_text, target_text, Spells, SpellsBefore, open_parts, may_follow}
-use Rattle.layout_file.specs.Faults.{Front, first, second, behind, rule_of}
+use Rattle.layout_file.specs.Faults.{Front, first, second, behind, BreaksLine, IsLowest}
 
 -- the lines before, without a fault, have this text, and are so many
 abbrev pub IsBefore : Front → List ℕ → ℕ → Type 0
@@ -39,9 +39,9 @@ abbrev pub MustGoOn : Front → Type 0
 MustGoOn (behind set None) = ⊥
 MustGoOn front = Unit {0}
 
--- the first line of the rest breaks the rule, as the lowest: a line with its end, one without, or none where one must stand
+-- the first line of the rest breaks the rule, and none that is lower: a line with its end, one without, or none where one must stand
 pub data Breaks (front : Front) (text : List ℕ) (rule : ℕ) : Type 0 where
-  whole : (line : List ℕ) → IsWhole line text → SpellsNone front line → rule_of front line ≡ Some rule → Breaks front text rule
+  whole : (line : List ℕ) → IsWhole line text → SpellsNone front line → IsLowest (BreaksLine front line) rule → Breaks front text rule
   endless : IsEndless text → rule ≡ 1 → Breaks front text rule
   missing : text ≡ [] → MustGoOn front → rule ≡ 2 → Breaks front text rule
 
@@ -105,6 +105,14 @@ IsReading bytes (Ok set) = Spells set bytes
 IsReading bytes (Err (BadLine line rule)) = IsFault bytes line rule
 IsReading bytes (Err (Limit which)) = IsLimit bytes which
 IsReading bytes (Err Memory) = Unit {0}
+
+-- the file is read as the set, unless memory runs out
+abbrev pub IsReadAs : List ℕ → Set → Type 0
+IsReadAs bytes set = (r : Result Set LayoutErr) → IsReading bytes r → (r ≡ Ok set) ⊎ (r ≡ Err Memory)
+
+-- each file spells a set, or has a fault
+abbrev pub HaveReading : Type 0
+HaveReading = (bytes : List ℕ) → (r : Result Set LayoutErr) × ((r ≢ Err Memory) × IsReading bytes r)
 
 -- a file spells at most one set
 abbrev pub SpellOne : Type 0

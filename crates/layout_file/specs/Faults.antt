@@ -1,6 +1,11 @@
--- Which rule a line breaks that spells nothing that may stand there.
-use Rattle.std.specs.Prelude.{ℕ, Bool, true, false, ◌==◌, min, if◌then◌else◌, List, [], ◌∷◌, length, drop, Option, Some, None, Result, Ok, Err, codes}
-use Rattle.std.specs.Str.{bytes_eq, is_utf8}
+-- Which rules a line breaks that spells nothing that may stand there, as the table of faults in `docs/layout-file.md` says.
+use Rattle.std.specs.Prelude.{◌≡◌, ◌≢◌, ℕ, ℤ, ◌^◌, ◌<◌, ◌≤◌, min, if◌then◌else◌, Bool, true, false, length, List, [], ◌∷◌, ◌++◌, Contains, Option, Some, None, Result, Ok, Err, codes}
+use Rattle.std.specs.Fmt.{decimal, signed_decimal}
+use Rattle.std.specs.Int.{w64}
+use Rattle.std.specs.Int.RustNames.{FitsSigned}
+use Rattle.std.specs.Str.{is_utf8}
+use Rattle.readers.specs.Lines.{Lacks}
+use Rattle.expr_eval.specs.declared.operation.Op.{Op}
 use Rattle.layout_model.specs.declared.set.Set.{Set}
 use Rattle.layout_file.specs.declared.kinds.TypeKind.{TypeKind}
 use Rattle.layout_file.specs.declared.kinds.TypeKind.TheVariants as kinds
@@ -18,12 +23,10 @@ use Rattle.layout_file.specs.declared.open_entry.OpenEntry.{OpenEntry}
 use Rattle.layout_file.specs.declared.slot.Slot.{Slot}
 use Rattle.layout_file.specs.declared.slot.Slot.TheVariants as slots
 use Rattle.std.specs.Borrow.{Bor}
-use Rattle.snapshot_file.specs.Registers.{reg_of}
-use Rattle.readers.specs.Hex.{hex_of}
-use Rattle.layout_file.specs.Kinds.{line_kind_of, type_kind_of, selector_kind_of, primitive_of, pointer_of, entry_kind_of, piece_kind_of, numbered_of, plain_of}
-use Rattle.layout_file.specs.Spellings.{number_of, address_of, word_of, name_of, begins_with}
-use Rattle.layout_file.specs.PlaceSpellings.{frame_of, signed_of, digits_of, cut_at, zone_of, numbered_op}
-use Rattle.layout_file.specs.Forms.{Left, cut, words, operations, operations_of}
+use Rattle.layout_file.specs.Kinds.{line_kind_word, type_kind_of, selector_kind_of, entry_kind_of, piece_kind_of, numbered_word}
+use Rattle.layout_file.specs.Spellings.{Spelling, number, address, begins_with, pointer, primitive, word, name}
+use Rattle.layout_file.specs.PlaceSpellings.{register, frame, hex, signed, digits, zone, operation}
+use Rattle.layout_file.specs.Forms.{Left, cut, words, words_text, operations, AreOperations}
 use Rattle.layout_file.specs.Lines.{func_form, scope_form, reg_form, mem_form, fixed_form, value_form, count_form, param_form, field_form, case_form, tag_form, static_form, sized_form, array_form, thin_form, fat_form, dyn_form, clike_form, exact_form, span_form}
 use Rattle.layout_file.specs.Sets.{may_follow}
 
@@ -43,80 +46,65 @@ front_of places.First = first
 front_of places.Second = second
 front_of (places.Behind set begun) = behind set.now (opened begun)
 
-abbrev pub may_stand : Front → LineKind → Bool
-may_stand first firsts.Version = true
-may_stand second firsts.Target = true
-may_stand (behind set begun) kind = may_follow set begun kind
-may_stand front kind = false
+-- the kinds of lines that may stand there
+abbrev pub MayStand : Front → LineKind → Type 0
+MayStand first kind = kind ≡ firsts.Version
+MayStand second kind = kind ≡ firsts.Target
+MayStand (behind set begun) kind = may_follow set begun kind ≡ true
 
 abbrev pub next_number : Front → ℕ
 next_number (behind set begun) = length set.types
 next_number front = 0
 
--- the rule, where there is no such item
-abbrev pub unless : {A : Type 0} → ℕ → Option A → Option ℕ
-unless rule None = Some rule
-unless rule (Some a) = None
+-- the text is that of an item
+abbrev pub IsItem : {A : Type 0} → Spelling A → List ℕ → Type 0
+IsItem {A} S text = (a : A) × (S.Is a × (text ≡ S.text a))
 
--- the rule that a number of a type breaks
-abbrev pub not_next : ℕ → Option ℕ → Option ℕ
-not_next next None = Some 4
-not_next next (Some n) = if n == next then None else Some 5
+-- how many bits the number behind the colon has; that of `reg` stands behind a register, and has a sign
+abbrev pub operand_bits : NumberedOp → ℕ
+operand_bits numbered.Const = 64
+operand_bits numbered.Deref = 8
+operand_bits numbered.Pick = 8
+operand_bits numbered.Plus = 64
+operand_bits numbered.Reg = 64
 
--- the lower of two rules
-abbrev pub lower : Option ℕ → Option ℕ → Option ℕ
-lower None o = o
-lower (Some a) None = Some a
-lower (Some a) (Some b) = Some (min a b)
+-- The rules that one of the operations breaks by itself: it is none, and begins with no word of one with a number and a colon;
+-- its number is none; or behind `reg:` there is no second colon, no register before it, or no signed number of 64 bits behind it.
+pub data BreaksOperation (text : List ℕ) : ℕ → Type 0 where
+  no_operation : ¬ IsItem operation text
+      → ((kind : NumberedOp) (operand : List ℕ) → text ≢ numbered_word kind ++ 58 ∷ operand) → BreaksOperation text 7
+  no_operand : (kind : NumberedOp) (operand : List ℕ) → kind ≢ numbered.Reg → text ≡ numbered_word kind ++ 58 ∷ operand
+      → ¬ IsItem (number (operand_bits kind)) operand → BreaksOperation text 4
+  no_sum : (sum : List ℕ) → text ≡ codes "reg:" ++ sum → Lacks 58 sum → BreaksOperation text 7
+  unknown_register : (reg offset : List ℕ) → text ≡ codes "reg:" ++ (reg ++ 58 ∷ offset) → Lacks 58 reg
+      → ¬ IsItem register reg → BreaksOperation text 7
+  no_offset : (reg offset : List ℕ) → text ≡ codes "reg:" ++ (reg ++ 58 ∷ offset) → Lacks 58 reg
+      → ((n : ℤ) → FitsSigned w64 n → offset ≢ signed_decimal n) → BreaksOperation text 4
 
--- the lowest rule that one of the words breaks
-abbrev pub lowest_of : (List ℕ → Option ℕ) → List (List ℕ) → Option ℕ
-lowest_of rule [] = None
-lowest_of rule (word ∷ words) = lower (rule word) (lowest_of rule words)
-
--- the rule that an operation breaks: the sum of a register and a number, behind its first colon
-abbrev pub broken_sum : List ℕ × Option (List ℕ) → Option ℕ
-broken_sum (name, None) = Some 7
-broken_sum (name, Some number) = lower (unless 7 (reg_of name)) (unless 4 (signed_of 63 number))
-
-abbrev pub broken_number : List ℕ → Option NumberedOp → Option ℕ
-broken_number text None = Some 7
-broken_number text (Some numbered.Reg) = broken_sum (cut_at 58 text)
-broken_number text (Some kind) = unless 4 (numbered_op kind text)
-
-abbrev pub broken_op_by : List ℕ × Option (List ℕ) → Option ℕ
-broken_op_by (word, None) = unless 7 (plain_of word)
-broken_op_by (word, Some text) = broken_number text (numbered_of word)
-
-abbrev pub broken_op : List ℕ → Option ℕ
-broken_op text = broken_op_by (cut_at 58 text)
-
-abbrev pub broken_zone : List ℕ → Option ℕ
-broken_zone text = unless 4 (zone_of text)
-
--- the lowest rule that operations break: each alone, and all together
-abbrev pub broken_operations : List ℕ → Option ℕ
-broken_operations line = lower (lowest_of broken_op (words line)) (unless 7 (operations_of (Some line)))
-
--- the rule that a word breaks at such a place, if it breaks one; no number has more than 128 bits
-abbrev pub broken : ℕ → Slot → List ℕ → Option ℕ
-broken next slots.Version text = if bytes_eq text (codes "1") then None else Some 4
-broken next slots.Next text = not_next next (number_of 32 text)
-broken next (slots.Number bits) text = unless 4 (number_of (min bits 128) text)
-broken next slots.Address text = unless 4 (address_of text)
-broken next slots.Reference text = if begins_with 35 text then unless 4 (number_of 32 (drop 1 text)) else unless 7 (primitive_of text)
-broken next slots.Pointer text = unless 7 (pointer_of text)
-broken next slots.Primitive text = unless 7 (primitive_of text)
-broken next slots.Kind text = None
-broken next slots.Word text = unless 6 (word_of text)
-broken next slots.Name text = unless 6 (name_of text)
-broken next slots.Frame text = unless 7 (frame_of text)
-broken next slots.Register text = unless 7 (reg_of text)
-broken next slots.Signed text = unless 4 (signed_of 31 text)
-broken next slots.Hex text = unless 4 (hex_of text)
-broken next slots.Digits text = unless 7 (digits_of text)
-broken next slots.Zones text = lowest_of broken_zone (words text)
-broken next slots.Operations text = broken_operations text
+-- The rules that a text breaks at such a place, where `next` is the number of the next type. Behind `#` stands the number of a
+-- type. No number has more than 128 bits.
+pub data BreaksItem (next : ℕ) : Slot → List ℕ → ℕ → Type 0 where
+  other_version : {text : List ℕ} → text ≢ codes "1" → BreaksItem next slots.Version text 4
+  no_type_number : {text : List ℕ} → ¬ IsItem (number 32) text → BreaksItem next slots.Next text 4
+  other_type_number : (n : ℕ) {text : List ℕ} → n < 2 ^ 32 → text ≡ decimal n → n ≢ next → BreaksItem next slots.Next text 5
+  no_number : (bits : ℕ) {text : List ℕ} → ¬ IsItem (number (min bits 128)) text → BreaksItem next (slots.Number bits) text 4
+  no_address : {text : List ℕ} → ¬ IsItem address text → BreaksItem next slots.Address text 4
+  no_numbered_type : (behind_hash : List ℕ) {text : List ℕ} → text ≡ 35 ∷ behind_hash → ¬ IsItem (number 32) behind_hash → BreaksItem next slots.Reference text 4
+  no_named_type : {text : List ℕ} → begins_with 35 text ≡ false → ¬ IsItem primitive text → BreaksItem next slots.Reference text 7
+  no_pointer : {text : List ℕ} → ¬ IsItem pointer text → BreaksItem next slots.Pointer text 7
+  no_primitive : {text : List ℕ} → ¬ IsItem primitive text → BreaksItem next slots.Primitive text 7
+  no_word : {text : List ℕ} → ¬ IsItem word text → BreaksItem next slots.Word text 6
+  no_name : {text : List ℕ} → ¬ IsItem name text → BreaksItem next slots.Name text 6
+  no_frame : {text : List ℕ} → ¬ IsItem frame text → BreaksItem next slots.Frame text 7
+  no_register : {text : List ℕ} → ¬ IsItem register text → BreaksItem next slots.Register text 7
+  no_signed : {text : List ℕ} → ¬ IsItem signed text → BreaksItem next slots.Signed text 4
+  no_hex : {text : List ℕ} → ¬ IsItem hex text → BreaksItem next slots.Hex text 4
+  no_digits : {text : List ℕ} → ¬ IsItem digits text → BreaksItem next slots.Digits text 7
+  no_zone : (one : List ℕ) {text : List ℕ} → Contains (words text) one → ¬ IsItem zone one → BreaksItem next slots.Zones text 4
+  operation_breaks : (one : List ℕ) {text : List ℕ} {rule : ℕ} → Contains (words text) one → BreaksOperation one rule
+      → BreaksItem next slots.Operations text rule
+  no_expression : {text : List ℕ} → ((ops : List Op) → AreOperations ops → Some text ≢ words_text operation ops)
+      → BreaksItem next slots.Operations text 7
 
 -- all that is left of the line is at such a place
 abbrev pub is_rest : Slot → Bool
@@ -125,17 +113,20 @@ is_rest slots.Zones = true
 is_rest slots.Operations = true
 is_rest slot = false
 
+-- The rules that words break at their places: the word at the first place does, all that is left where that is a place for the
+-- rest of the line, or a word further on.
+pub data BreaksWords (next : ℕ) : List Slot → Left → ℕ → Type 0 where
+  here : {slot : Slot} {more : List Slot} {line : List ℕ} {rule : ℕ} → is_rest slot ≡ false
+      → BreaksItem next slot (cut line).0 rule → BreaksWords next (slot ∷ more) (Some line) rule
+  in_rest : {slot : Slot} {more : List Slot} {line : List ℕ} {rule : ℕ} → is_rest slot ≡ true
+      → BreaksItem next slot line rule → BreaksWords next (slot ∷ more) (Some line) rule
+  later : {slot : Slot} {more : List Slot} {line : List ℕ} {rule : ℕ} → is_rest slot ≡ false
+      → BreaksWords next more (cut line).1 rule → BreaksWords next (slot ∷ more) (Some line) rule
+
 -- there may be nothing at such a place
 abbrev pub is_optional : Slot → Bool
 is_optional slots.Zones = true
 is_optional slot = false
-
--- the lowest rule that words break at their places
-abbrev pub lowest_broken : ℕ → List Slot → Left → Option ℕ
-lowest_broken next [] left = None
-lowest_broken next (slot ∷ more) None = None
-lowest_broken next (slot ∷ more) (Some line) =
-    if is_rest slot then broken next slot line else lower (broken next slot (cut line).0) (lowest_broken next more (cut line).1)
 
 -- whether there are as many words as places
 abbrev pub fits : List Slot → Left → Bool
@@ -211,15 +202,18 @@ places_of firsts.Arg left = Ok param_form.slots
 places_of firsts.At left = places_by (λ kind. slots.Hex ∷ slots.Hex ∷ slots.Kind ∷ place_slots kind) entry_kind_of (third_word left)
 places_of firsts.Piece left = places_by (λ kind. slots.Number 32 ∷ slots.Kind ∷ place_slots kind) piece_kind_of (second_word left)
 
--- the lowest rule above 2 that is broken, where such words may stand
-abbrev pub rule_of_words : ℕ → Left → Result (List Slot) ℕ → Option ℕ
-rule_of_words next left (Err rule) = Some rule
-rule_of_words next left (Ok places) = if fits places left then lowest_broken next places left else Some 3
+-- The rules that a line breaks which stands there: it isn't UTF-8; its first word can't stand there; what must stand behind the
+-- first word can't be known; there are not as many words as places; or a word breaks the rule at its place.
+pub data BreaksLine (front : Front) (line : List ℕ) : ℕ → Type 0 where
+  no_text : is_utf8 line ≡ false → BreaksLine front line 1
+  cannot_stand : ((kind : LineKind) → MayStand front kind → (cut line).0 ≢ line_kind_word kind) → BreaksLine front line 2
+  no_kind : (kind : LineKind) {rule : ℕ} → MayStand front kind → (cut line).0 ≡ line_kind_word kind
+      → places_of kind (cut line).1 ≡ Err rule → BreaksLine front line rule
+  miscounted : (kind : LineKind) (at : List Slot) → MayStand front kind → (cut line).0 ≡ line_kind_word kind
+      → places_of kind (cut line).1 ≡ Ok at → fits at (cut line).1 ≡ false → BreaksLine front line 3
+  words_break : (kind : LineKind) (at : List Slot) {rule : ℕ} → MayStand front kind → (cut line).0 ≡ line_kind_word kind
+      → places_of kind (cut line).1 ≡ Ok at → BreaksWords (next_number front) at (cut line).1 rule → BreaksLine front line rule
 
-abbrev pub rule_of_kind : Front → Left → Option LineKind → Option ℕ
-rule_of_kind front left None = Some 2
-rule_of_kind front left (Some kind) = if may_stand front kind then rule_of_words (next_number front) left (places_of kind left) else Some 2
-
--- the lowest rule that the line breaks, if it breaks one
-unfoldable pub rule_of : Front → List ℕ → Option ℕ
-rule_of front line = if is_utf8 line then rule_of_kind front (cut line).1 (line_kind_of (cut line).0) else Some 1
+-- the rule is broken, and none that is lower
+abbrev pub IsLowest : (ℕ → Type 0) → ℕ → Type 0
+IsLowest Broken rule = Broken rule × ((lower : ℕ) → Broken lower → rule ≤ lower)

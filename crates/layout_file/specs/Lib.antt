@@ -7,6 +7,7 @@ pub mod ReadLines
 pub mod Steps
 pub mod Sets
 pub mod Faults
+pub mod LineRules
 pub mod Additions
 pub mod Claims
 pub mod Progress

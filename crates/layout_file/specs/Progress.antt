@@ -11,7 +11,8 @@ use Rattle.layout_file.specs.declared.layout_err.LayoutErr.TheVariants.{BadLine,
 use Rattle.layout_file.specs.Additions.{added}
 use Rattle.layout_file.specs.Lines.{line_text, kind_of_line, IsLine}
 use Rattle.layout_file.specs.Sets.{lines_before, text_before, IsSpellable, IsOpenEntry, IsBoundedBefore, open_parts, may_follow}
-use Rattle.layout_file.specs.Faults.{Front, behind, rule_of}
+use Rattle.layout_file.specs.Faults.{Front, behind}
+use Rattle.layout_file.specs.LineRules.{rule_of}
 use Rattle.layout_file.specs.Claims.{SpellsNone, Passes}
 
 abbrev pub line_number : ℕ → ℕ

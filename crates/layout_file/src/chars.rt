@@ -1,6 +1,6 @@
 //! Names as the rest of a line.
-ghost use Rattle.std.specs.Prelude.{◌≡◌, ◌++◌, OnOk, OnErr, IfOk, take, length, ◌∷◌, ◌≤◌};
-ghost use Rattle.std.specs.List.{flat_map};
+ghost use Rattle.std.specs.Prelude.{◌≡◌, ◌++◌, OnOk, OnErr, IfOk, take, length, ◌∷◌, ◌<◌, ◌≤◌};
+ghost use Rattle.std.specs.List.{flat_map, All};
 ghost use Rattle.std.specs.Str.{bytes_eq};
 ghost use Rattle.layout_file.specs.Spellings.{escape, raw_text, unescaped, byte_of, digit_value, raw_of, rust_name_of, name_of};
 ghost use Rattle.layout_file.specs.Steps.{Read};
@@ -104,6 +104,7 @@ fn digit_value(c: u8) -> u8
 pub(crate) fn put_raw(bytes: &[u8], out: &mut Buf) -> Result<(), Memory>
     ensures put { OnOk result (out.new ≡ out.old ++ raw_text bytes.now) }
     ensures front { OnErr result (take (length out.old) out.new ≡ out.old) }
+    ensures bytes { All (λ b. b < 256) bytes.now }
 {
     out.put(b"\"")?;
     put_escapes(bytes, out)?;

@@ -1,9 +1,14 @@
 //! The laws of layout files.
-ghost use Rattle.layout_file.specs.Claims.{SpellOne, HaveNoFault, HaveOneFault};
+ghost use Rattle.layout_file.specs.Claims.{HaveReading, SpellOne, HaveNoFault, HaveOneFault};
 
 /// A file spells at most one set.
 pub fn a_file_spells_one_set()
     ensures { SpellOne }
+{}
+
+/// Each file spells a set, or has a fault.
+pub fn a_file_is_spelled_or_at_fault()
+    ensures { HaveReading }
 {}
 
 /// A file that spells a set is refused only for want of memory.

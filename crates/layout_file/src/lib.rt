@@ -31,7 +31,10 @@ mod slot;
 mod type_addition;
 mod writer;
 
-pub use laws::{a_file_has_at_most_one_fault, a_file_spells_one_set, a_spelled_file_has_no_fault};
+pub use laws::{
+    a_file_has_at_most_one_fault, a_file_is_spelled_or_at_fault, a_file_spells_one_set,
+    a_spelled_file_has_no_fault,
+};
 pub use layout_err::{Count, LayoutErr};
 pub use names::put_name;
 pub use reader::read;

@@ -1,13 +1,15 @@
 //! The lines of types and statics, written.
-ghost use Rattle.std.specs.Prelude.{◌≡◌, ◌++◌, ◌∷◌, [], map, length, take, OnOk, OnErr};
+ghost use Rattle.std.specs.Prelude.{◌≡◌, ◌++◌, ◌∷◌, [], map, length, take, IfSome, OnOk, OnErr};
 ghost use Rattle.std.specs.Fmt.{decimal};
-ghost use Rattle.std.specs.List.{flat_map};
+ghost use Rattle.std.specs.List.{flat_map, All};
 ghost use Rattle.readers.specs.Lines.{with_end};
 ghost use Rattle.readers.specs.Hex.{hex_text};
-ghost use Rattle.layout_file.specs.Spellings.{reference_text, address_text, name_text};
+ghost use Rattle.layout_model.specs.DerivedNames.{name_of};
+ghost use Rattle.layout_model.specs.Law10.{IsNamed, AreNamed};
+ghost use Rattle.layout_file.specs.Spellings.{reference_text, address_text, name_text, IsReference, IsAddress, IsName};
 ghost use Rattle.layout_file.specs.Forms.{behind};
-ghost use Rattle.layout_file.specs.Lines.{line_text, line_rest, kind_of_type, type_rest, kind_of_selector, selector_rest, sized_form, thin_form, fat_form};
-ghost use Rattle.layout_file.specs.Sets.{texts, type_lines, part_lines, variant_lines, tag_lines, part_text};
+ghost use Rattle.layout_file.specs.Lines.{line_text, line_rest, kind_of_type, type_rest, kind_of_selector, selector_rest, sized_form, thin_form, fat_form, IsLine, IsTypeLine, IsSelector};
+ghost use Rattle.layout_file.specs.Sets.{texts, bare, type_lines, part_lines, variant_lines, tag_lines, part_text};
 ghost use Rattle.layout_file.specs.declared.line.Line.TheVariants as lines;
 
 use crate::chars::put_raw;
@@ -51,6 +53,7 @@ pub(crate) fn put_number(number: u128, out: &mut Buf) -> Result<(), Memory>
 pub(crate) fn put_reference(ty: TypeRef, out: &mut Buf) -> Result<(), Memory>
     ensures put { OnOk result (out.new ≡ out.old ++ 32 ∷ reference_text ty) }
     ensures front { OnErr result (take (length out.old) out.new ≡ out.old) }
+    ensures is { IsReference ty }
 {
     match ty {
         TypeRef::Prim(primitive) => put_word(primitive_word(primitive), out),
@@ -65,6 +68,7 @@ pub(crate) fn put_reference(ty: TypeRef, out: &mut Buf) -> Result<(), Memory>
 fn put_address(addr: Option<u64>, out: &mut Buf) -> Result<(), Memory>
     ensures put { OnOk result (out.new ≡ out.old ++ 32 ∷ address_text addr) }
     ensures front { OnErr result (take (length out.old) out.new ≡ out.old) }
+    ensures is { IsAddress addr }
 {
     match addr {
         None => out.put(b" none"),
@@ -84,6 +88,7 @@ pub(crate) fn put_hexadecimal(at: u64, out: &mut Buf) -> Result<(), Memory>
 pub(crate) fn put_text_of_name(name: &Name, out: &mut Buf) -> Result<(), Memory>
     ensures put { OnOk result (out.new ≡ out.old ++ name_text name.now) }
     ensures front { OnErr result (take (length out.old) out.new ≡ out.old) }
+    ensures name { OnOk result (IsNamed name.now → IsName name.now) }
 {
     match name {
         Name::Raw(bytes) => put_raw(bytes.as_bytes(), out),
@@ -95,6 +100,7 @@ pub(crate) fn put_text_of_name(name: &Name, out: &mut Buf) -> Result<(), Memory>
 pub(crate) fn put_spaced_name(name: &Name, out: &mut Buf) -> Result<(), Memory>
     ensures put { OnOk result (out.new ≡ out.old ++ 32 ∷ name_text name.now) }
     ensures front { OnErr result (take (length out.old) out.new ≡ out.old) }
+    ensures name { OnOk result (IsNamed name.now → IsName name.now) }
 {
     out.put(b" ")?;
     put_text_of_name(name, out)
@@ -111,6 +117,7 @@ pub(crate) fn put_end(out: &mut Buf) -> Result<(), Memory>
 fn put_param(param: &Param, out: &mut Buf) -> Result<(), Memory>
     ensures put { OnOk result (out.new ≡ out.old ++ part_text (lines.Param param.now)) }
     ensures front { OnErr result (take (length out.old) out.new ≡ out.old) }
+    ensures line { OnOk result (IsLine (lines.Param param.now)) }
 {
     out.put(line_kind_word(LineKind::Param))?;
     put_word(param.name.as_bytes(), out)?;
@@ -121,6 +128,7 @@ fn put_param(param: &Param, out: &mut Buf) -> Result<(), Memory>
 fn put_field_words(field: &Field, out: &mut Buf) -> Result<(), Memory>
     ensures put { OnOk result (out.new ≡ out.old ++ behind (line_rest 0 (lines.Field field.now))) }
     ensures front { OnErr result (take (length out.old) out.new ≡ out.old) }
+    ensures line { OnOk result (IsLine (lines.Field field.now)) }
 {
     put_word(field.name.as_bytes(), out)?;
     put_number(u128::from(field.off), out)?;
@@ -130,6 +138,7 @@ fn put_field_words(field: &Field, out: &mut Buf) -> Result<(), Memory>
 fn put_field(field: &Field, out: &mut Buf) -> Result<(), Memory>
     ensures put { OnOk result (out.new ≡ out.old ++ part_text (lines.Field field.now)) }
     ensures front { OnErr result (take (length out.old) out.new ≡ out.old) }
+    ensures line { OnOk result (IsLine (lines.Field field.now)) }
 {
     out.put(line_kind_word(LineKind::Field))?;
     put_field_words(field, out)?;
@@ -139,6 +148,7 @@ fn put_field(field: &Field, out: &mut Buf) -> Result<(), Memory>
 fn put_case(case: &Case, out: &mut Buf) -> Result<(), Memory>
     ensures put { OnOk result (out.new ≡ out.old ++ part_text (lines.Case case.now)) }
     ensures front { OnErr result (take (length out.old) out.new ≡ out.old) }
+    ensures line { OnOk result (IsLine (lines.Case case.now)) }
 {
     out.put(line_kind_word(LineKind::Case))?;
     put_word(case.name.as_bytes(), out)?;
@@ -149,6 +159,7 @@ fn put_case(case: &Case, out: &mut Buf) -> Result<(), Memory>
 fn put_tag(tag: Option<Tag>, out: &mut Buf) -> Result<(), Memory>
     ensures put { OnOk result (out.new ≡ out.old ++ flat_map part_text (tag_lines tag)) }
     ensures front { OnErr result (take (length out.old) out.new ≡ out.old) }
+    ensures lines { All IsLine (tag_lines tag) }
 {
     match tag {
         None => Ok(()),
@@ -159,6 +170,7 @@ fn put_tag(tag: Option<Tag>, out: &mut Buf) -> Result<(), Memory>
 fn put_tag_line(tag: Tag, out: &mut Buf) -> Result<(), Memory>
     ensures put { OnOk result (out.new ≡ out.old ++ part_text (lines.Tag tag)) }
     ensures front { OnErr result (take (length out.old) out.new ≡ out.old) }
+    ensures line { IsLine (lines.Tag tag) }
 {
     out.put(line_kind_word(LineKind::Tag))?;
     put_number(u128::from(tag.off), out)?;
@@ -180,6 +192,7 @@ fn kind_of_selector(sel: Selector) -> SelectorKind
 fn put_numbers(sel: Selector, out: &mut Buf) -> Result<(), Memory>
     ensures put { OnOk result (out.new ≡ out.old ++ behind (selector_rest sel)) }
     ensures front { OnErr result (take (length out.old) out.new ≡ out.old) }
+    ensures is { IsSelector sel }
 {
     match sel {
         Selector::Exact(number) => put_number(number, out),
@@ -194,6 +207,7 @@ fn put_numbers(sel: Selector, out: &mut Buf) -> Result<(), Memory>
 fn put_variant_line(word: &[u8], sel: Selector, out: &mut Buf) -> Result<(), Memory>
     ensures put { OnOk result (out.new ≡ out.old ++ part_text (lines.Variant word.now sel)) }
     ensures front { OnErr result (take (length out.old) out.new ≡ out.old) }
+    ensures is { IsSelector sel }
 {
     out.put(line_kind_word(LineKind::Variant))?;
     put_word(word, out)?;
@@ -205,6 +219,7 @@ fn put_variant_line(word: &[u8], sel: Selector, out: &mut Buf) -> Result<(), Mem
 fn put_params(params: &[Param], out: &mut Buf) -> Result<(), Memory>
     ensures put { OnOk result (out.new ≡ out.old ++ flat_map part_text (map (λ p. lines.Param p) params.now)) }
     ensures front { OnErr result (take (length out.old) out.new ≡ out.old) }
+    ensures lines { OnOk result (All IsLine (map (λ p. lines.Param p) params.now)) }
 {
     for param in params {
         put_param(param, out)?;
@@ -215,6 +230,7 @@ fn put_params(params: &[Param], out: &mut Buf) -> Result<(), Memory>
 fn put_fields(fields: &[Field], out: &mut Buf) -> Result<(), Memory>
     ensures put { OnOk result (out.new ≡ out.old ++ flat_map part_text (map (λ f. lines.Field f) fields.now)) }
     ensures front { OnErr result (take (length out.old) out.new ≡ out.old) }
+    ensures lines { OnOk result (All IsLine (map (λ f. lines.Field f) fields.now)) }
 {
     for field in fields {
         put_field(field, out)?;
@@ -225,6 +241,7 @@ fn put_fields(fields: &[Field], out: &mut Buf) -> Result<(), Memory>
 fn put_cases(cases: &[Case], out: &mut Buf) -> Result<(), Memory>
     ensures put { OnOk result (out.new ≡ out.old ++ flat_map part_text (map (λ c. lines.Case c) cases.now)) }
     ensures front { OnErr result (take (length out.old) out.new ≡ out.old) }
+    ensures lines { OnOk result (All IsLine (map (λ c. lines.Case c) cases.now)) }
 {
     for case in cases {
         put_case(case, out)?;
@@ -236,6 +253,7 @@ fn put_cases(cases: &[Case], out: &mut Buf) -> Result<(), Memory>
 fn put_variant(variant: &Variant, out: &mut Buf) -> Result<(), Memory>
     ensures put { OnOk result (out.new ≡ out.old ++ flat_map part_text (variant_lines variant.now)) }
     ensures front { OnErr result (take (length out.old) out.new ≡ out.old) }
+    ensures lines { OnOk result (All IsLine (variant_lines variant.now)) }
 {
     put_variant_line(variant.name.as_bytes(), variant.sel, out)?;
     put_fields(variant.fields.as_slice(), out)
@@ -244,6 +262,7 @@ fn put_variant(variant: &Variant, out: &mut Buf) -> Result<(), Memory>
 fn put_variants(variants: &[Variant], out: &mut Buf) -> Result<(), Memory>
     ensures put { OnOk result (out.new ≡ out.old ++ flat_map part_text (flat_map variant_lines variants.now)) }
     ensures front { OnErr result (take (length out.old) out.new ≡ out.old) }
+    ensures lines { OnOk result (All IsLine (flat_map variant_lines variants.now)) }
 {
     for variant in variants {
         put_variant(variant, out)?;
@@ -255,6 +274,7 @@ fn put_variants(variants: &[Variant], out: &mut Buf) -> Result<(), Memory>
 fn put_parts(def: &TypeDef, out: &mut Buf) -> Result<(), Memory>
     ensures put { OnOk result (out.new ≡ out.old ++ flat_map part_text (part_lines def.now)) }
     ensures front { OnErr result (take (length out.old) out.new ≡ out.old) }
+    ensures lines { OnOk result (All IsLine (part_lines def.now)) }
 {
     match def {
         TypeDef::Struct { params, fields, .. } => {
@@ -297,6 +317,7 @@ fn kind_of_type(def: &TypeDef) -> TypeKind
 fn put_sized(size: u32, align: u32, name: &Name, out: &mut Buf) -> Result<(), Memory>
     ensures put { OnOk result (out.new ≡ out.old ++ behind (sized_form.text (size, (align, name.now)))) }
     ensures front { OnErr result (take (length out.old) out.new ≡ out.old) }
+    ensures is { OnOk result (IsNamed name.now → sized_form.Is (size, (align, name.now))) }
 {
     put_number(u128::from(size), out)?;
     put_number(u128::from(align), out)?;
@@ -307,6 +328,7 @@ fn put_sized(size: u32, align: u32, name: &Name, out: &mut Buf) -> Result<(), Me
 fn put_pointer(kind: PtrKind, to: TypeRef, out: &mut Buf) -> Result<(), Memory>
     ensures put { OnOk result (out.new ≡ out.old ++ behind (thin_form.text (kind, (to, tt)))) }
     ensures front { OnErr result (take (length out.old) out.new ≡ out.old) }
+    ensures is { IsReference to }
 {
     put_word(pointer_word(kind), out)?;
     put_reference(to, out)
@@ -316,6 +338,7 @@ fn put_pointer(kind: PtrKind, to: TypeRef, out: &mut Buf) -> Result<(), Memory>
 fn put_fat(kind: PtrKind, to: TypeRef, name: &Name, out: &mut Buf) -> Result<(), Memory>
     ensures put { OnOk result (out.new ≡ out.old ++ behind (fat_form.text (kind, (to, name.now)))) }
     ensures front { OnErr result (take (length out.old) out.new ≡ out.old) }
+    ensures is { OnOk result (IsNamed name.now → fat_form.Is (kind, (to, name.now))) }
 {
     put_word(pointer_word(kind), out)?;
     put_reference(to, out)?;
@@ -326,6 +349,7 @@ fn put_fat(kind: PtrKind, to: TypeRef, name: &Name, out: &mut Buf) -> Result<(),
 fn put_type_rest(def: &TypeDef, out: &mut Buf) -> Result<(), Memory>
     ensures put { OnOk result (out.new ≡ out.old ++ behind (type_rest def.now)) }
     ensures front { OnErr result (take (length out.old) out.new ≡ out.old) }
+    ensures line { OnOk result (IfSome (name_of def.now) IsNamed → IsTypeLine (bare def.now)) }
 {
     match def {
         TypeDef::Struct {
@@ -370,6 +394,7 @@ fn put_type_rest(def: &TypeDef, out: &mut Buf) -> Result<(), Memory>
 fn put_type_words(number: usize, def: &TypeDef, out: &mut Buf) -> Result<(), Memory>
     ensures put { OnOk result (out.new ≡ out.old ++ behind (line_rest number (lines.Type def.now))) }
     ensures front { OnErr result (take (length out.old) out.new ≡ out.old) }
+    ensures line { OnOk result (IfSome (name_of def.now) IsNamed → IsTypeLine (bare def.now)) }
 {
     put_number(number as u128, out)?;
     put_word(type_kind_word(kind_of_type(def)), out)?;
@@ -379,6 +404,7 @@ fn put_type_words(number: usize, def: &TypeDef, out: &mut Buf) -> Result<(), Mem
 fn put_type_line(number: usize, def: &TypeDef, out: &mut Buf) -> Result<(), Memory>
     ensures put { OnOk result (out.new ≡ out.old ++ with_end (line_text number (lines.Type def.now))) }
     ensures front { OnErr result (take (length out.old) out.new ≡ out.old) }
+    ensures line { OnOk result (IfSome (name_of def.now) IsNamed → IsTypeLine (bare def.now)) }
 {
     out.put(line_kind_word(LineKind::Type))?;
     put_type_words(number, def, out)?;
@@ -389,6 +415,7 @@ fn put_type_line(number: usize, def: &TypeDef, out: &mut Buf) -> Result<(), Memo
 fn put_type(number: usize, def: &TypeDef, out: &mut Buf) -> Result<(), Memory>
     ensures put { OnOk result (out.new ≡ out.old ++ texts number (type_lines def.now)) }
     ensures front { OnErr result (take (length out.old) out.new ≡ out.old) }
+    ensures lines { OnOk result (IfSome (name_of def.now) IsNamed → All IsLine (type_lines def.now)) }
 {
     put_type_line(number, def, out)?;
     put_parts(def, out)
@@ -398,6 +425,7 @@ fn put_type(number: usize, def: &TypeDef, out: &mut Buf) -> Result<(), Memory>
 pub(crate) fn put_types(types: &[TypeDef], out: &mut Buf) -> Result<(), Memory>
     ensures put { OnOk result (out.new ≡ out.old ++ texts 0 (flat_map type_lines types.now)) }
     ensures front { OnErr result (take (length out.old) out.new ≡ out.old) }
+    ensures lines { OnOk result (AreNamed types.now → All IsLine (flat_map type_lines types.now)) }
 {
     for (number, def) in types.iter().enumerate() {
         put_type(number, def, out)?;
@@ -408,6 +436,7 @@ pub(crate) fn put_types(types: &[TypeDef], out: &mut Buf) -> Result<(), Memory>
 fn put_static_words(item: &Static, out: &mut Buf) -> Result<(), Memory>
     ensures put { OnOk result (out.new ≡ out.old ++ behind (line_rest 0 (lines.Static item.now))) }
     ensures front { OnErr result (take (length out.old) out.new ≡ out.old) }
+    ensures line { OnOk result (IsNamed item.now.name → IsLine (lines.Static item.now)) }
 {
     put_address(item.addr, out)?;
     put_reference(item.ty, out)?;
@@ -417,6 +446,7 @@ fn put_static_words(item: &Static, out: &mut Buf) -> Result<(), Memory>
 fn put_static(item: &Static, out: &mut Buf) -> Result<(), Memory>
     ensures put { OnOk result (out.new ≡ out.old ++ part_text (lines.Static item.now)) }
     ensures front { OnErr result (take (length out.old) out.new ≡ out.old) }
+    ensures line { OnOk result (IsNamed item.now.name → IsLine (lines.Static item.now)) }
 {
     out.put(line_kind_word(LineKind::Static))?;
     put_static_words(item, out)?;
@@ -426,6 +456,7 @@ fn put_static(item: &Static, out: &mut Buf) -> Result<(), Memory>
 pub(crate) fn put_statics(statics: &[Static], out: &mut Buf) -> Result<(), Memory>
     ensures put { OnOk result (out.new ≡ out.old ++ flat_map part_text (map (λ s. lines.Static s) statics.now)) }
     ensures front { OnErr result (take (length out.old) out.new ≡ out.old) }
+    ensures lines { OnOk result (All (λ s. IsNamed s.name) statics.now → All IsLine (map (λ s. lines.Static s) statics.now)) }
 {
     for item in statics {
         put_static(item, out)?;

@@ -1,6 +1,7 @@
 //! Which rule a line breaks that spells nothing that may stand there.
 ghost use Rattle.std.specs.Prelude.{◌≡◌, IfOk, Some, Ok, ◌∷◌};
-ghost use Rattle.layout_file.specs.Faults.{front_of, may_stand, next_number, is_rest, is_optional, lowest_broken, fits, type_slots, selector_slots, place_slots, second_word, third_word, places_of, rule_of_words, rule_of_kind, rule_of};
+ghost use Rattle.layout_file.specs.Faults.{front_of, next_number, is_rest, is_optional, fits, type_slots, selector_slots, place_slots, second_word, third_word, places_of};
+ghost use Rattle.layout_file.specs.LineRules.{may_stand, lowest_broken, rule_of_words, rule_of_kind, rule_of};
 ghost use Rattle.layout_file.specs.declared.kinds.LineKind.TheVariants as firsts;
 ghost use Rattle.layout_file.specs.declared.slot.Slot.TheVariants as slots;
 ghost use Rattle.layout_file.specs.Steps.{lent, seen};
@@ -18,7 +19,7 @@ use rv_io::Memory;
 use std::alloc::Global;
 
 /// The lowest rule that the line breaks, if it breaks one.
-#[tactic(auto, unfolding(crate::specs::Faults::rule_of))]
+#[tactic(auto, unfolding(crate::specs::LineRules::rule_of))]
 pub(crate) fn rule_of(alloc: Global, front: Front, line: &[u8]) -> Result<Option<u8>, Memory>
     ensures { IfOk result (λ r. r ≡ rule_of (front_of front.entry) line.now) }
 {

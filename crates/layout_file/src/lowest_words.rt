@@ -1,6 +1,6 @@
 //! Which rule the words of a line break at their places.
 ghost use Rattle.std.specs.Prelude.{◌≡◌, ◌<◌, IfOk, IfSome, Some, length, drop, if◌then◌else◌};
-ghost use Rattle.layout_file.specs.Faults.{unless, not_next, broken, lower, lowest_of, broken_sum, broken_number, broken_op, broken_zone, broken_operations};
+ghost use Rattle.layout_file.specs.LineRules.{unless, not_next, broken, lower, lowest_of, broken_sum, broken_number, broken_op, broken_zone, broken_operations};
 ghost use Rattle.layout_file.specs.Forms.{cut, words};
 ghost use Rattle.layout_file.specs.Kinds.{primitive_of};
 ghost use Rattle.layout_file.specs.PlaceSpellings.{cut_at, digits_of};

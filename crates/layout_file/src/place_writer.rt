@@ -1,9 +1,10 @@
 //! Places, written.
-ghost use Rattle.std.specs.Prelude.{◌≡◌, ◌++◌, ◌∷◌, length, take, OnOk, OnErr};
+ghost use Rattle.std.specs.Prelude.{◌≡◌, ◌++◌, ◌∷◌, ◌<◌, length, take, IfSome, OnOk, OnErr};
+ghost use Rattle.std.specs.List.{All};
 ghost use Rattle.std.specs.Fmt.{decimal, signed_decimal};
-ghost use Rattle.layout_file.specs.PlaceSpellings.{digits_text, operation, op_text};
+ghost use Rattle.layout_file.specs.PlaceSpellings.{digits_text, operation, op_text, IsOp};
 ghost use Rattle.layout_file.specs.Forms.{behind, words_text};
-ghost use Rattle.layout_file.specs.Lines.{kind_of_place, place_rest, place_text, place_text_if};
+ghost use Rattle.layout_file.specs.Lines.{kind_of_place, place_rest, place_text, place_text_if, IsPlaceLine};
 ghost use Rattle.expr_eval.specs.declared.operation.Op.TheVariants as ops;
 
 use crate::kinds::PlaceKind;
@@ -29,6 +30,7 @@ fn put_signed(number: i64, out: &mut Buf) -> Result<(), Memory>
 fn put_digits(bytes: &[u8], out: &mut Buf) -> Result<(), Memory>
     ensures put { OnOk result (out.new ≡ out.old ++ 32 ∷ digits_text bytes.now) }
     ensures front { OnErr result (take (length out.old) out.new ≡ out.old) }
+    ensures bytes { All (λ b. b < 256) bytes.now }
 {
     let text = digits_text(out.alloc(), bytes)?;
     put_word(text.as_bytes(), out)
@@ -58,6 +60,7 @@ fn put_register_op(reg: Reg, number: i64, out: &mut Buf) -> Result<(), Memory>
 fn put_op(op: Op, out: &mut Buf) -> Result<(), Memory>
     ensures put { OnOk result (out.new ≡ out.old ++ 32 ∷ op_text op) }
     ensures front { OnErr result (take (length out.old) out.new ≡ out.old) }
+    ensures op { IsOp op }
 {
     match op {
         Op::Const(n) => put_behind(b" const:", n, out),
@@ -73,6 +76,7 @@ fn put_op(op: Op, out: &mut Buf) -> Result<(), Memory>
 fn put_ops(ops: &[Op], out: &mut Buf) -> Result<(), Memory>
     ensures put { OnOk result (out.new ≡ out.old ++ behind (words_text operation ops.now)) }
     ensures front { OnErr result (take (length out.old) out.new ≡ out.old) }
+    ensures ops { OnOk result (All IsOp ops.now) }
 {
     for op in ops {
         put_op(*op, out)?;
@@ -96,6 +100,7 @@ fn kind_of_place(place: &Place) -> PlaceKind
 fn put_place_rest(place: &Place, out: &mut Buf) -> Result<(), Memory>
     ensures put { OnOk result (out.new ≡ out.old ++ behind (place_rest place.now)) }
     ensures front { OnErr result (take (length out.old) out.new ≡ out.old) }
+    ensures place { OnOk result (IsPlaceLine place.now) }
 {
     match place {
         Place::Reg(reg) => put_word(reg.name(), out),
@@ -114,6 +119,7 @@ fn put_place_rest(place: &Place, out: &mut Buf) -> Result<(), Memory>
 pub(crate) fn put_place(place: &Place, out: &mut Buf) -> Result<(), Memory>
     ensures put { OnOk result (out.new ≡ out.old ++ 32 ∷ place_text place.now) }
     ensures front { OnErr result (take (length out.old) out.new ≡ out.old) }
+    ensures place { OnOk result (IsPlaceLine place.now) }
 {
     put_word(place_word(kind_of_place(place)), out)?;
     put_place_rest(place, out)
@@ -123,6 +129,7 @@ pub(crate) fn put_place(place: &Place, out: &mut Buf) -> Result<(), Memory>
 pub(crate) fn put_place_if(place: &Option<Place>, out: &mut Buf) -> Result<(), Memory>
     ensures put { OnOk result (out.new ≡ out.old ++ 32 ∷ place_text_if place.now) }
     ensures front { OnErr result (take (length out.old) out.new ≡ out.old) }
+    ensures place { OnOk result (IfSome place.now IsPlaceLine) }
 {
     match place {
         None => put_word(place_word(PlaceKind::Nowhere), out),

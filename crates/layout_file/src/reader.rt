@@ -1,7 +1,8 @@
 //! Whole layout files, read line by line.
 ghost use Rattle.std.specs.Prelude.{◌≡◌, ◌≢◌, true, length, Some, None};
 ghost use Rattle.layout_file.specs.Claims.{IsReading, SpellsNone};
-ghost use Rattle.layout_file.specs.Faults.{behind, rule_of};
+ghost use Rattle.layout_file.specs.Faults.{behind};
+ghost use Rattle.layout_file.specs.LineRules.{rule_of};
 ghost use Rattle.layout_file.specs.Lines.{kind_of_line, IsLine};
 ghost use Rattle.layout_file.specs.ReadLines.{line_of};
 ghost use Rattle.layout_file.specs.Sets.{may_follow};

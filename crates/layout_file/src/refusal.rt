@@ -1,6 +1,7 @@
 //! How a line is refused.
 ghost use Rattle.std.specs.Prelude.{◌≢◌, None};
-ghost use Rattle.layout_file.specs.Faults.{front_of, rule_of};
+ghost use Rattle.layout_file.specs.Faults.{front_of};
+ghost use Rattle.layout_file.specs.LineRules.{rule_of};
 ghost use Rattle.layout_file.specs.Claims.{SpellsNone};
 ghost use Rattle.layout_file.specs.Progress.{Refuses, RefusesEnd};
 

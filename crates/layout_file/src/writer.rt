@@ -1,6 +1,9 @@
 //! The text of a set.
-ghost use Rattle.std.specs.Prelude.{◌≡◌, ◌++◌, length, take, OnOk, OnErr};
-ghost use Rattle.layout_file.specs.Sets.{layout_text, head_text, version_text, target_text};
+ghost use Rattle.std.specs.Prelude.{◌≡◌, ◌++◌, ◌<◌, length, take, OnOk, OnErr};
+ghost use Rattle.layout_model.specs.Law10.{IsSet};
+ghost use Rattle.layout_model.specs.Law14.{IsBounded};
+ghost use Rattle.layout_file.specs.Claims.{IsReadAs};
+ghost use Rattle.layout_file.specs.Sets.{layout_text, head_text, version_text, target_text, Spells};
 ghost use Rattle.readers.specs.Lines.{with_end};
 
 use crate::func_writer::put_funcs;
@@ -28,6 +31,7 @@ fn put_target(ptr: u8, out: &mut Buf) -> Result<(), Memory>
 fn put_head(ptr: u8, out: &mut Buf) -> Result<(), Memory>
     ensures put { OnOk result (out.new ≡ out.old ++ head_text ptr) }
     ensures front { OnErr result (take (length out.old) out.new ≡ out.old) }
+    ensures byte { ptr < 256 }
 {
     put_version(out)?;
     put_target(ptr, out)
@@ -40,6 +44,12 @@ pub fn write(set: &Set, out: &mut Buf) -> Result<(), Memory>
 
     // After want of memory nothing has changed.
     ensures same { OnErr result (out.new ≡ out.old) }
+
+    // The text spells the set, where its names are names and it is not too large.
+    ensures spelled { OnOk result (IsSet set.now → IsBounded set.now → Spells set.now (layout_text set.now)) }
+
+    // So it is read as the set.
+    ensures read_back { OnOk result (IsSet set.now → IsBounded set.now → IsReadAs (layout_text set.now) set.now) }
 {
     let len = out.as_bytes().len();
     let done = put_set(set, out);
@@ -53,6 +63,7 @@ pub fn write(set: &Set, out: &mut Buf) -> Result<(), Memory>
 fn put_set(set: &Set, out: &mut Buf) -> Result<(), Memory>
     ensures put { OnOk result (out.new ≡ out.old ++ layout_text set.now) }
     ensures front { OnErr result (take (length out.old) out.new ≡ out.old) }
+    ensures spelled { OnOk result (IsSet set.now → IsBounded set.now → Spells set.now (layout_text set.now)) }
 {
     put_head(set.target.ptr, out)?;
     put_types(set.types.as_slice(), out)?;

@@ -6,6 +6,7 @@ use Rattle.std.proofs.lemmas.Bool.Decides.{Decides-by_and, nat_tests}
 use Rattle.std.proofs.lemmas.Grind.{common_steps}
 use Rattle.std.proofs.lemmas.List.Elements.{All-contains, All-map}
 use Rattle.type_names.specs.declared.name.PtrKind.{PtrKind}
+use Rattle.type_names.specs.Pointers.{is_non_null}
 use Rattle.layout_model.specs.declared.primitive.Primitive.{Primitive}
 use Rattle.layout_model.specs.declared.primitive.Primitive.TheVariants.{Bool as BoolPrim, Char}
 use Rattle.layout_model.specs.declared.set.Field.{Field}
@@ -21,7 +22,7 @@ use Rattle.layout_model.specs.declared.set.TypeDef.TheVariants.{Struct, Array, T
 use Rattle.layout_model.specs.declared.honesty.Niche.{Niche}
 use Rattle.layout_model.specs.Law8.{case_numbers, exact_number, exact_numbers}
 use Rattle.layout_model.specs.Primitives.{prim_bytes}
-use Rattle.layout_model.specs.Honest.{InSpan, holder, struct_fields, variants_of, is_owning, IsPrimLeaf, IsTypeLeaf, of_prim, of_type, in_struct, IsPrimNumber, IsAddress, IsTypeNumber, HasNumber, of_prim_number, of_type_number, in_struct_number, in_span_number, LiesOnLeaf}
+use Rattle.layout_model.specs.Honest.{InSpan, holder, struct_fields, variants_of, IsPrimLeaf, IsTypeLeaf, of_prim, of_type, in_struct, IsPrimNumber, IsAddress, IsTypeNumber, HasNumber, of_prim_number, of_type_number, in_struct_number, in_span_number, LiesOnLeaf}
 use Rattle.layout_model.specs.Lies.{in_span, range_lies, prim_lies, pointer_lies, field_lies, selector_lies, enum_lies, def_lies, def_lies_at, lies}
 use Rattle.layout_model.proofs.ExactNumbers.{all_picked}
 use Rattle.layout_model.proofs.Ranges.{in_span_decides, range_decides}
@@ -166,10 +167,10 @@ pointer_numbers types niche i off at_off t at a b own leaf p = record {
   numbers = plain_numbers types niche.width i off t (InSpan niche.first niche.last) at a b (λ n h. p.addresses n (own n h));
 }
 
-owned : (types : List TypeDef) (niche : Niche) (i off : ℕ) (t : TypeDef) → slice_get types i ≡ Some t → struct_fields t ≡ [] → variants_of t ≡ [] → ((n : ℕ) → IsTypeNumber n t → IsAddress n) → (kind : PtrKind) → (IsTrue (is_owning kind) × ((off ≡ 0) × (niche.width ≡ 8)) → IsTypeLeaf niche.width off t) → (is_owning kind && pointer_lies niche off) ≡ true → LiesOnLeaf types niche.width (User i) off niche.first niche.last
+owned : (types : List TypeDef) (niche : Niche) (i off : ℕ) (t : TypeDef) → slice_get types i ≡ Some t → struct_fields t ≡ [] → variants_of t ≡ [] → ((n : ℕ) → IsTypeNumber n t → IsAddress n) → (kind : PtrKind) → (IsTrue (is_non_null kind) × ((off ≡ 0) × (niche.width ≡ 8)) → IsTypeLeaf niche.width off t) → (is_non_null kind && pointer_lies niche off) ≡ true → LiesOnLeaf types niche.width (User i) off niche.first niche.last
 owned types niche i off t at a b own kind leaf e =
-    let p = pointer_forth niche off (right (is_owning kind) (pointer_lies niche off) e) in
-    pointer_numbers types niche i off off t at a b own (leaf (left (is_owning kind) (pointer_lies niche off) e, (p.begin, p.wide))) p
+    let p = pointer_forth niche off (right (is_non_null kind) (pointer_lies niche off) e) in
+    pointer_numbers types niche i off off t at a b own (leaf (left (is_non_null kind) (pointer_lies niche off) e, (p.begin, p.wide))) p
 
 split : (a b : Bool) → (a || b) ≡ true → (a ≡ true) ⊎ (b ≡ true)
 split true b e = inl refl
@@ -226,7 +227,7 @@ def_forth types niche rest ih i off (Slice name kind ptr) at e = owned types nic
 def_forth types niche rest ih i off (Str name kind ptr) at e = owned types niche i off (Str name kind ptr) at refl refl (λ n h. h) kind (λ l. l) e
 def_forth types niche rest ih i off (Dyn name kind ptr vtable) at e =
     let parts = pointer_lies niche off || (off == 8 && pointer_lies niche 0) in
-    dyn_forth types niche i off (Dyn name kind ptr vtable) at refl refl (λ n h. h) (λ l. (left (is_owning kind) parts e, l)) (split (pointer_lies niche off) (off == 8 && pointer_lies niche 0) (right (is_owning kind) parts e))
+    dyn_forth types niche i off (Dyn name kind ptr vtable) at refl refl (λ n h. h) (λ l. (left (is_non_null kind) parts e, l)) (split (pointer_lies niche off) (off == 8 && pointer_lies niche 0) (right (is_non_null kind) parts e))
 def_forth types niche rest ih i off FnPtr at e = let p = pointer_forth niche off e in pointer_numbers types niche i off off FnPtr at refl refl (λ n h. h) (p.begin, p.wide) p
 def_forth types niche rest ih i off (CLike name tag cases) at e =
     let test : Case → Bool = λ c. in_span niche c.number in

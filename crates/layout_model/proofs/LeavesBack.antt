@@ -19,11 +19,12 @@ use Rattle.layout_model.specs.declared.set.TypeDef.{TypeDef}
 use Rattle.layout_model.specs.declared.set.TypeDef.TheVariants.{Struct, Array, Thin, Slice, Str, Dyn, FnPtr, CLike, Enum, Bytes}
 use Rattle.layout_model.specs.declared.honesty.Niche.{Niche}
 use Rattle.layout_model.specs.FirstBreach.{Holds}
+use Rattle.type_names.specs.Pointers.{is_non_null}
 use Rattle.layout_model.specs.Law2.{Law2}
 use Rattle.layout_model.specs.Law8.{exact_number, exact_numbers}
 use Rattle.layout_model.specs.Primitives.{prim_bytes}
 use Rattle.layout_model.specs.References.{contents, field_types, variant_types}
-use Rattle.layout_model.specs.Honest.{InSpan, holder, holds_bytes, struct_fields, is_owning, IsPrimLeaf, IsTypeLeaf, HasLeaf, of_prim, of_type, in_struct, IsAddress, IsTypeNumber, HasNumber, of_prim_number, of_type_number, in_struct_number, in_span_number, LiesOnLeaf, IsHonestVariant, IsHonestType, IsHonest}
+use Rattle.layout_model.specs.Honest.{InSpan, holder, holds_bytes, struct_fields, IsPrimLeaf, IsTypeLeaf, HasLeaf, of_prim, of_type, in_struct, IsAddress, IsTypeNumber, HasNumber, of_prim_number, of_type_number, in_struct_number, in_span_number, LiesOnLeaf, IsHonestVariant, IsHonestType, IsHonest}
 use Rattle.layout_model.specs.Lies.{in_span, pointer_lies, field_lies, selector_lies, def_lies, def_lies_at, lies, honest_selector, honest_type}
 use Rattle.layout_model.proofs.Ranges.{in_span_decides}
 use Rattle.layout_model.proofs.Leaves.{some_same, clash, untrue, both, equals, all_pass, prim_back, pointer_back, lies_forth}
@@ -130,10 +131,10 @@ def_back : (types : List TypeDef) (niche : Niche) (rest : TypeRef → ℕ → Bo
 unfolding IsHonestType
 def_back types niche rest i off (Struct name size align params fields) at honest ih leaf all = elim leaf [ ]
 def_back types niche rest i off (Array elem count) at honest ih leaf all = elim leaf [ ]
-def_back types niche rest i off (Thin kind to) at honest ih leaf all = both (is_owning kind) (pointer_lies niche off) leaf.0 (pointer_test types niche i off (Thin kind to) off at (λ n h. h) leaf.1.0 leaf.1.1 all)
-def_back types niche rest i off (Slice name kind ptr) at honest ih leaf all = both (is_owning kind) (pointer_lies niche off) leaf.0 (pointer_test types niche i off (Slice name kind ptr) off at (λ n h. h) leaf.1.0 leaf.1.1 all)
-def_back types niche rest i off (Str name kind ptr) at honest ih leaf all = both (is_owning kind) (pointer_lies niche off) leaf.0 (pointer_test types niche i off (Str name kind ptr) off at (λ n h. h) leaf.1.0 leaf.1.1 all)
-def_back types niche rest i off (Dyn name kind ptr vtable) at honest ih leaf all = both (is_owning kind) (pointer_lies niche off || (off == 8 && pointer_lies niche 0)) leaf.0 (dyn_test types niche i off (Dyn name kind ptr vtable) at (λ n h. h) leaf.1.0 leaf.1.1 all)
+def_back types niche rest i off (Thin kind to) at honest ih leaf all = both (is_non_null kind) (pointer_lies niche off) leaf.0 (pointer_test types niche i off (Thin kind to) off at (λ n h. h) leaf.1.0 leaf.1.1 all)
+def_back types niche rest i off (Slice name kind ptr) at honest ih leaf all = both (is_non_null kind) (pointer_lies niche off) leaf.0 (pointer_test types niche i off (Slice name kind ptr) off at (λ n h. h) leaf.1.0 leaf.1.1 all)
+def_back types niche rest i off (Str name kind ptr) at honest ih leaf all = both (is_non_null kind) (pointer_lies niche off) leaf.0 (pointer_test types niche i off (Str name kind ptr) off at (λ n h. h) leaf.1.0 leaf.1.1 all)
+def_back types niche rest i off (Dyn name kind ptr vtable) at honest ih leaf all = both (is_non_null kind) (pointer_lies niche off || (off == 8 && pointer_lies niche 0)) leaf.0 (dyn_test types niche i off (Dyn name kind ptr vtable) at (λ n h. h) leaf.1.0 leaf.1.1 all)
 def_back types niche rest i off FnPtr at honest ih leaf all = pointer_test types niche i off FnPtr off at (λ n h. h) leaf.0 leaf.1 all
 def_back types niche rest i off (CLike name tag cases) at honest ih leaf all =
     let test : Case → Bool = λ c. in_span niche c.number in

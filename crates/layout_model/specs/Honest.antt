@@ -1,8 +1,7 @@
 -- Honest sets: each span of numbers is that of a leaf in its variant, all of whose numbers it holds.
 use Rattle.std.specs.Prelude.{◌≡◌, ℕ, ◌+◌, ◌-◌, ◌^◌, ◌<◌, ◌≤◌, ◌⊎◌, nat_le, Bool, true, false, ◌&&◌, if◌then◌else◌, List, [], ◌∷◌, Option, Some, None, slice_get, IsSomeAnd, IsTrue}
 use Rattle.std.specs.List.{All, Contains}
-use Rattle.type_names.specs.declared.name.PtrKind.{PtrKind}
-use Rattle.type_names.specs.declared.name.PtrKind.TheVariants.{Ref, RefMut, Const, Mut, Boxed}
+use Rattle.type_names.specs.Pointers.{is_non_null}
 use Rattle.layout_model.specs.declared.primitive.Primitive.{Primitive}
 use Rattle.layout_model.specs.declared.primitive.Primitive.TheVariants.{Bool as BoolPrim, Char}
 use Rattle.layout_model.specs.declared.set.Set.{Set}
@@ -40,14 +39,6 @@ abbrev pub variants_of : TypeDef → List Variant
 variants_of (Enum name size align params tag variants) = variants
 variants_of _ = []
 
--- the kinds of pointers that are never 0
-abbrev pub is_owning : PtrKind → Bool
-is_owning Ref = true
-is_owning RefMut = true
-is_owning Boxed = true
-is_owning Const = false
-is_owning Mut = false
-
 -- `width` bytes at `off` are all bytes of the primitive, which has numbers
 abbrev pub IsPrimLeaf : ℕ → ℕ → Primitive → Type 0
 IsPrimLeaf width off BoolPrim = (off ≡ 0) × (width ≡ 1)
@@ -57,11 +48,11 @@ IsPrimLeaf width off _ = ⊥
 -- they are a pointer that is never 0, the number of a C-like enum or the tag of an enum; an enum
 -- without variants has no value, and so nothing to ask
 abbrev pub IsTypeLeaf : ℕ → ℕ → TypeDef → Type 0
-IsTypeLeaf width off (Thin kind to) = IsTrue (is_owning kind) × ((off ≡ 0) × (width ≡ 8))
+IsTypeLeaf width off (Thin kind to) = IsTrue (is_non_null kind) × ((off ≡ 0) × (width ≡ 8))
 IsTypeLeaf width off FnPtr = (off ≡ 0) × (width ≡ 8)
-IsTypeLeaf width off (Slice name kind ptr) = IsTrue (is_owning kind) × ((off ≡ 0) × (width ≡ 8))
-IsTypeLeaf width off (Str name kind ptr) = IsTrue (is_owning kind) × ((off ≡ 0) × (width ≡ 8))
-IsTypeLeaf width off (Dyn name kind ptr vtable) = IsTrue (is_owning kind) × (((off ≡ 0) ⊎ (off ≡ 8)) × (width ≡ 8))
+IsTypeLeaf width off (Slice name kind ptr) = IsTrue (is_non_null kind) × ((off ≡ 0) × (width ≡ 8))
+IsTypeLeaf width off (Str name kind ptr) = IsTrue (is_non_null kind) × ((off ≡ 0) × (width ≡ 8))
+IsTypeLeaf width off (Dyn name kind ptr vtable) = IsTrue (is_non_null kind) × (((off ≡ 0) ⊎ (off ≡ 8)) × (width ≡ 8))
 IsTypeLeaf width off (CLike name tag cases) = (off ≡ 0) × (width ≡ prim_bytes tag)
 IsTypeLeaf width off (Enum name size align params (Some tag) variants) = (off ≡ tag.off) × (width ≡ prim_bytes tag.prim)
 IsTypeLeaf width off (Enum name size align params None variants) = variants ≡ []

@@ -1,6 +1,7 @@
 -- Whether a tag lies on a leaf whose numbers a span holds, by levels. Private: `Honest` says what it means.
 use Rattle.std.specs.Prelude.{ℕ, zero, suc, ◌+◌, ◌-◌, ◌^◌, ◌==◌, nat_le, Bool, true, false, ◌&&◌, ◌||◌, not, if◌then◌else◌, List, [], ◌∷◌, Option, Some, None, slice_get}
 use Rattle.std.specs.List.{list_all}
+use Rattle.type_names.specs.Pointers.{is_non_null}
 use Rattle.layout_model.specs.declared.primitive.Primitive.{Primitive}
 use Rattle.layout_model.specs.declared.primitive.Primitive.TheVariants.{Bool as BoolPrim, Char}
 use Rattle.layout_model.specs.declared.set.Field.{Field}
@@ -13,7 +14,7 @@ use Rattle.layout_model.specs.declared.set.TypeRef.TheVariants.{Prim, User}
 use Rattle.layout_model.specs.declared.set.TypeDef.{TypeDef}
 use Rattle.layout_model.specs.declared.set.TypeDef.TheVariants.{Struct, Array, Thin, Slice, Str, Dyn, FnPtr, CLike, Enum}
 use Rattle.layout_model.specs.declared.honesty.Niche.{Niche}
-use Rattle.layout_model.specs.Honest.{holds_bytes, holder, is_owning}
+use Rattle.layout_model.specs.Honest.{holds_bytes, holder}
 use Rattle.layout_model.specs.Primitives.{prim_bytes}
 
 abbrev pub in_span : Niche → ℕ → Bool
@@ -64,11 +65,11 @@ enum_lies rest types niche off (Some tag) variants = off == tag.off && (niche.wi
 
 abbrev pub def_lies : (TypeRef → ℕ → Bool) → List TypeDef → Niche → ℕ → TypeDef → Bool
 def_lies rest types niche off (Struct name size align params fields) = field_lies rest off (holder types niche.width off fields)
-def_lies rest types niche off (Thin kind to) = is_owning kind && pointer_lies niche off
+def_lies rest types niche off (Thin kind to) = is_non_null kind && pointer_lies niche off
 def_lies rest types niche off FnPtr = pointer_lies niche off
-def_lies rest types niche off (Slice name kind ptr) = is_owning kind && pointer_lies niche off
-def_lies rest types niche off (Str name kind ptr) = is_owning kind && pointer_lies niche off
-def_lies rest types niche off (Dyn name kind ptr vtable) = is_owning kind && (pointer_lies niche off || (off == 8 && pointer_lies niche 0))
+def_lies rest types niche off (Slice name kind ptr) = is_non_null kind && pointer_lies niche off
+def_lies rest types niche off (Str name kind ptr) = is_non_null kind && pointer_lies niche off
+def_lies rest types niche off (Dyn name kind ptr vtable) = is_non_null kind && (pointer_lies niche off || (off == 8 && pointer_lies niche 0))
 def_lies rest types niche off (CLike name tag cases) = off == 0 && (niche.width == prim_bytes tag && list_all (λ c. in_span niche c.number) cases)
 def_lies rest types niche off (Enum name size align params tag variants) = enum_lies rest types niche off tag variants
 def_lies rest types niche off _ = false

@@ -1,31 +1,23 @@
 -- What the numbers of pointers may be, and how far pointers are followed.
 use Rattle.std.specs.Prelude.{ℕ, ◌-◌, ◌*◌, ◌^◌, nat_lt, ◌&&◌, if◌then◌else◌, Bool, true, false, List, Option, Some, None, slice_get}
 use Rattle.type_names.specs.declared.name.PtrKind.{PtrKind}
-use Rattle.type_names.specs.declared.name.PtrKind.TheVariants.{Ref, RefMut, Const, Mut, Boxed}
+use Rattle.type_names.specs.Pointers.{is_non_null}
 use Rattle.layout_model.specs.declared.set.TypeRef.{TypeRef}
 use Rattle.layout_model.specs.declared.set.TypeRef.TheVariants.{Prim, User}
 use Rattle.layout_model.specs.declared.set.TypeDef.{TypeDef}
 use Rattle.layout_model.specs.declared.set.TypeDef.TheVariants as defs
 
--- references and boxes are sound where they stand, raw pointers may be anything
-abbrev pub owns : PtrKind → Bool
-owns Ref = true
-owns RefMut = true
-owns Boxed = true
-owns Const = false
-owns Mut = false
-
 -- a pointer of this kind may have this number
 abbrev pub may_point : PtrKind → ℕ → Bool
-may_point kind n = if owns kind then nat_lt 0 n else true
+may_point kind n = if is_non_null kind then nat_lt 0 n else true
 
 -- a pointer of this kind to so many elements of this size may have this number
 abbrev pub may_span : PtrKind → ℕ → ℕ → ℕ → Bool
-may_span kind size n len = if owns kind then nat_lt 0 n && nat_lt (len * size) (2 ^ 63) else true
+may_span kind size n len = if is_non_null kind then nat_lt 0 n && nat_lt (len * size) (2 ^ 63) else true
 
 -- the depth that is left for what a pointer leads to, where it is followed
 abbrev pub below : PtrKind → ℕ → Option ℕ
-below kind depth = if owns kind && nat_lt 0 depth then Some (depth - 1) else None
+below kind depth = if is_non_null kind && nat_lt 0 depth then Some (depth - 1) else None
 
 -- what a thin pointer leads to
 abbrev pub target_of : Option TypeDef → Option TypeRef

@@ -2,7 +2,7 @@
 ghost use Rattle.std.specs.Prelude.{◌≡◌, ◌+◌, ◌<◌, ◌≤◌, ◌^◌, option_copied, IfSome, IsTrue};
 ghost use Rattle.std.specs.Bool.{Decides};
 ghost use Rattle.std.specs.List.{All, list_all};
-ghost use Rattle.layout_model.specs.Honest.{holds_bytes, holder, is_owning, IsHonest};
+ghost use Rattle.layout_model.specs.Honest.{holds_bytes, holder, IsHonest};
 ghost use Rattle.layout_model.specs.Law5.{HasFitNumbers};
 ghost use Rattle.layout_model.specs.Law7.{VariantsApart, HasPartsApart};
 ghost use Rattle.layout_model.specs.Lies.{in_span, range_lies, prim_lies, pointer_lies, is_array, plain_holder, field_lies, selector_lies, enum_lies, def_lies, lies, honest_selector, honest_variants, honest_type};
@@ -14,7 +14,6 @@ ghost use Rattle.layout_model.specs.Sizes.{AreSmall};
 use crate::primitive::{Primitive, prim_size};
 use crate::set::{Case, Field, Selector, Set, Tag, TypeDef, TypeRef, Variant};
 use crate::sizes::small_size;
-use type_names::PtrKind;
 
 /// A tag of so many bytes, and the span of numbers that chooses a variant.
 #[derive(Clone, Copy, Debug, PartialEq, Eq)]
@@ -59,12 +58,6 @@ fn pointer_lies(niche: Niche, off: u32) -> bool
     ensures { result ≡ pointer_lies niche off }
 {
     off == 0 && niche.width == 8 && range_lies(niche, 1, 0xffff_ffff_ffff_ffff)
-}
-
-fn is_owning(kind: PtrKind) -> bool
-    ensures { result ≡ is_owning kind }
-{
-    matches!(kind, PtrKind::Ref | PtrKind::RefMut | PtrKind::Boxed)
 }
 
 /// Whether the field has all of the bytes.
@@ -149,11 +142,11 @@ fn def_lies(types: &[TypeDef], niche: Niche, def: &TypeDef, off: u32, most: u32)
     match def {
         TypeDef::Struct { fields, .. } => { fields_lie(types, niche, off, fields.as_slice(), most) }
         TypeDef::Thin { kind, .. } | TypeDef::Slice { kind, .. } | TypeDef::Str { kind, .. } => {
-            is_owning(*kind) && pointer_lies(niche, off)
+            kind.is_non_null() && pointer_lies(niche, off)
         }
         TypeDef::FnPtr => pointer_lies(niche, off),
         TypeDef::Dyn { kind, .. } => {
-            is_owning(*kind) && (pointer_lies(niche, off) || (off == 8 && pointer_lies(niche, 0)))
+            kind.is_non_null() && (pointer_lies(niche, off) || (off == 8 && pointer_lies(niche, 0)))
         }
         TypeDef::CLike { tag, cases, .. } => {
             off == 0 && niche.width == prim_size(*tag) && cases_lie(niche, cases.as_slice())

@@ -321,3 +321,23 @@ fn sizes_are_those_of_elements(rt: HostRuntime) -> Result<(), Fail> {
     assert_eq!(rt; prim_size(Primitive::I128), 16);
     Ok(())
 }
+
+/// Types of one part: a param, a case and a variant.
+const ONE_PART: [Draft<'static>; 3] = [
+    Draft::Generic("B", UNIT),
+    Draft::CLike("B", Primitive::U8, &[0]),
+    Draft::Enum("B", 0, None, &[(Selector::Only, &[])]),
+];
+
+#[test]
+fn params_cases_and_variants_are_parts(rt: HostRuntime) -> Result<(), Fail> {
+    let alloc = rt.alloc();
+    for one in ONE_PART {
+        for (count, want) in [(39_999, None), (40_000, Some((14, Item::Whole)))] {
+            let fields = vec![in alloc; (0, UNIT); count]?;
+            let types = [Draft::Struct("A", 0, fields.as_slice()), one];
+            assert!(rt; are_told(alloc, &types, want)?, "{count}");
+        }
+    }
+    Ok(())
+}

@@ -7,6 +7,7 @@ mod needs;
 mod niches;
 mod outcomes;
 mod pointers;
+mod referring;
 mod sequences;
 mod tags;
 mod texts;
@@ -130,6 +131,13 @@ fn assert_paused(rt: &(impl Abort + AllocGlobal), cases: &[Paused]) -> Result<()
 #[test]
 fn each_kind_of_value_is_shown_as_the_document_says(rt: HostRuntime) -> Result<(), Fail> {
     Ok(assert_shown(&rt, kinds::KINDS.as_slice())?)
+}
+
+#[test]
+fn types_that_refer_to_others_are_shown_where_their_bytes_are_there(
+    rt: HostRuntime,
+) -> Result<(), Fail> {
+    Ok(assert_shown(&rt, referring::REFERRING.as_slice())?)
 }
 
 #[test]

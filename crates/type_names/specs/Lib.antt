@@ -10,3 +10,4 @@ pub mod Steps
 pub mod RustGrammar
 pub mod Closings
 pub mod CvGrammar
+pub mod Pointers

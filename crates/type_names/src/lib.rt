@@ -7,6 +7,7 @@ mod cv_form;
 mod cv_reader;
 mod error;
 mod name;
+mod pointers;
 mod put;
 mod read;
 mod rest;

@@ -56,7 +56,8 @@ impl Word {
 
     /// The bytes. Takes no memory.
     pub fn as_bytes(&self) -> &[u8]
-        ensures { result.now ≡ self.now }
+        ensures bytes { result.now ≡ self.now }
+        ensures word { IsWord self.now }
     {
         self.bytes.as_slice()
     }

@@ -19,7 +19,8 @@ use Rattle.layout_model.specs.Contexts.{Items, Context, number_at, tag_number, f
 use Rattle.layout_model.specs.FirstBreach.{Holds}
 use Rattle.layout_model.specs.Images.{levels, IsImageWithin}
 use Rattle.layout_model.specs.Law2.{Law2}
-use Rattle.layout_model.specs.Pointers.{owns, below, pointee}
+use Rattle.type_names.specs.Pointers.{is_non_null}
+use Rattle.layout_model.specs.Pointers.{below, pointee}
 use Rattle.layout_model.specs.References.{contents}
 use Rattle.layout_model.specs.Walk.{Doing, go_field, go_content, go_far, go_thin, go_slice, go_variant, go_enum, go_def, walk}
 use Rattle.layout_model.proofs.SizeLevels.{HasChains, element_chains, shallow_chains}
@@ -46,7 +47,7 @@ less_if true zero = tt
 less_if true (suc d) = rw (lt-ltb 0 (suc d) (omega arith)) (omega arith)
 
 less_below : (kind : PtrKind) (d : ℕ) → Less d (below kind d)
-less_below kind d = less_if (owns kind) d
+less_below kind d = less_if (is_non_null kind) d
 
 -- P holds of each type that is contained
 abbrev Inside : (TypeRef → Type 0) → Option TypeDef → Type 0

@@ -1,36 +1,29 @@
 //! What the numbers of pointers may be, and how far pointers are followed.
 ghost use Rattle.std.specs.Prelude.{◌≡◌};
-ghost use Rattle.layout_model.specs.Pointers.{owns, may_point, may_span, below, pointee};
+ghost use Rattle.layout_model.specs.Pointers.{may_point, may_span, below, pointee};
 
 use layout_model::{TypeDef, TypeRef};
 use type_names::PtrKind;
-
-/// References and boxes.
-fn owns(kind: PtrKind) -> bool
-    ensures { result ≡ owns kind }
-{
-    matches!(kind, PtrKind::Ref | PtrKind::RefMut | PtrKind::Boxed)
-}
 
 /// A pointer of this kind may have this number.
 pub(crate) fn may_point(kind: PtrKind, at: u64) -> bool
     ensures { result ≡ may_point kind at }
 {
-    !owns(kind) || 0 < at
+    !kind.is_non_null() || 0 < at
 }
 
 /// A pointer of this kind to so many elements of this size may have this number.
 pub(crate) fn may_span(kind: PtrKind, size: u32, at: u64, len: u64) -> bool
     ensures { result ≡ may_span kind size at len }
 {
-    !owns(kind) || 0 < at && u128::from(len) * u128::from(size) < 0x8000_0000_0000_0000
+    !kind.is_non_null() || 0 < at && u128::from(len) * u128::from(size) < 0x8000_0000_0000_0000
 }
 
 /// The depth that is left for what a pointer leads to, where it is followed.
 pub(crate) fn below(kind: PtrKind, depth: u32) -> Option<u32>
     ensures { result ≡ below kind depth }
 {
-    if owns(kind) && 0 < depth {
+    if kind.is_non_null() && 0 < depth {
         Some(depth - 1)
     } else {
         None

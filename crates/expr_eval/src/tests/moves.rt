@@ -89,3 +89,16 @@ fn a_frame_without_its_address_gives_nothing(rt: HostRuntime) -> Result<(), Fail
     assert!(rt; found == Some(None));
     Ok(())
 }
+
+#[test]
+fn a_full_stack_has_its_top_and_its_bottom(rt: HostRuntime) -> Result<(), Fail> {
+    let snap = snapshot(rt.alloc())?;
+    let mut items = [Op::Cfa; 64];
+    items[0] = Op::Const(7);
+    let top = told(rt.alloc(), &snap, &items)?;
+    assert!(rt; top == Some(Some(Spot::Address(0x7ff0))));
+    items[63] = Op::Pick(62);
+    let bottom = told(rt.alloc(), &snap, &items)?;
+    assert!(rt; bottom == Some(Some(Spot::Address(7))));
+    Ok(())
+}

@@ -71,7 +71,7 @@ const ENTRIES: [EntryRow; 14] = [
 /// A type, a location of it, and whether it may have one.
 type LocRow = (TypeRef, LocDraft<'static>, bool);
 
-const PIECES: [LocRow; 21] = [
+const PIECES: [LocRow; 22] = [
     (UNIT, Pieces(&[]), false),
     (UNIT, Pieces(&[(0, None)]), false),
     (U8, Pieces(&[]), false),
@@ -115,6 +115,11 @@ const PIECES: [LocRow; 21] = [
         U32,
         Pieces(&[(4, Some(Expr(&[Op::RegPlus(Reg::Rax, 0)])))]),
         false,
+    ),
+    (
+        U32,
+        Pieces(&[(4, Some(Expr(&[Op::RegPlus(Reg::Rax, 0), Op::StackValue])))]),
+        true,
     ),
 ];
 

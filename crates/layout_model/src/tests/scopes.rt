@@ -7,7 +7,7 @@ use func_drafts::{FuncDraft, ScopeDraft, funcs_of, set_of_func};
 type Row = (&'static [ScopeDraft<'static>], bool);
 
 /// The body is the first, and each other scope is at most one deeper than the one before.
-const DEPTHS: [Row; 9] = [
+const DEPTHS: [Row; 11] = [
     (&[], false),
     (&[(0, &[(4, 5)], &[])], true),
     (&[(1, &[(4, 5)], &[])], false),
@@ -35,6 +35,27 @@ const DEPTHS: [Row; 9] = [
             (0, &[(4, 9)], &[]),
             (1, &[(4, 9)], &[]),
             (0, &[(4, 9)], &[]),
+        ],
+        false,
+    ),
+    // At most one deeper than the scope before, and not than a deeper one before that.
+    (
+        &[
+            (0, &[(4, 9)], &[]),
+            (1, &[(4, 9)], &[]),
+            (2, &[(4, 9)], &[]),
+            (1, &[(4, 9)], &[]),
+            (2, &[(4, 9)], &[]),
+        ],
+        true,
+    ),
+    (
+        &[
+            (0, &[(4, 9)], &[]),
+            (1, &[(4, 9)], &[]),
+            (2, &[(4, 9)], &[]),
+            (1, &[(4, 9)], &[]),
+            (3, &[(4, 9)], &[]),
         ],
         false,
     ),

@@ -81,7 +81,32 @@ scope 0 0x108..0x118\n\
 var x u8\n\
 at 0x108 0x118 fixed 0x1001\n";
 
-pub const BESIDE_STATICS: [Paused; 2] = [
+/// Two scopes beside one another, of which the second begins before the first ends.
+const BESIDE: &str = "fn none demo::f\n\
+scope 0 0x100..0x110\n\
+scope 1 0x100..0x108\n\
+var a u8\n\
+at 0x100 0x108 fixed 0x1000\n\
+scope 1 0x104..0x110\n\
+var b u8\n\
+at 0x104 0x110 fixed 0x1001\n";
+
+pub const BESIDE_STATICS: [Paused; 5] = [
+    Paused {
+        layout: BESIDE,
+        snapshot: "pc 0x103\nmem 0x1000 0102\n",
+        wanted: "pc 0x103\nfn demo::f\n  a = 1\n",
+    },
+    Paused {
+        layout: BESIDE,
+        snapshot: "pc 0x104\nmem 0x1000 0102\n",
+        wanted: "pc 0x104\nfn demo::f\n  a = 1\n  b = 2\n",
+    },
+    Paused {
+        layout: BESIDE,
+        snapshot: "pc 0x108\nmem 0x1000 0102\n",
+        wanted: "pc 0x108\nfn demo::f\n  b = 2\n",
+    },
     Paused {
         layout: SHARED,
         snapshot: "pc 0x10f\nmem 0x1000 0102\n",
@@ -156,15 +181,15 @@ reg xmm1 0x10000000000000002\nmem 0x2ffe 01020708\n",
 /// A parameter that is a slice in two registers over the first half of the body.
 const SLICED: &str = "type 0 thin mut u8\n\
 type 1 slice ref #0 &[u8]\n\
-fn none demo::sum\n\
+fn none demo::f\n\
 scope 0 0x401000..0x401020\n\
-arg items #1\n\
+arg s #1\n\
 at 0x401000 0x401010 pieces 2\n\
 piece 8 reg rdi\n\
 piece 8 reg rsi\n";
 
 /// A variable that is computed from what the stack pointer leads to.
-const COMPUTED: &str = "fn none demo::add\n\
+const COMPUTED: &str = "fn none demo::h\n\
 scope 0 0x401000..0x401010\n\
 var x u32\n\
 at 0x401000 0x401010 expr reg:rsp:8 deref:8 plus:4 value\n";
@@ -199,23 +224,23 @@ pub const COMPILED: [Paused; 8] = [
     Paused {
         layout: SLICED,
         snapshot: "pc 0x401000\nreg rsi 0x2\nreg rdi 0x3000\nmem 0x3000 0708\n",
-        wanted: "pc 0x401000\nfn demo::sum\n  items = &[0x3000; 2] -> [7, 8]\n",
+        wanted: "pc 0x401000\nfn demo::f\n  s = &[0x3000; 2] -> [7, 8]\n",
     },
     Paused {
         layout: SLICED,
         snapshot: "pc 0x401000\nreg rdi 0x3000\nmem 0x3000 0708\n",
-        wanted: "pc 0x401000\nfn demo::sum\n  items = <unavailable>\n",
+        wanted: "pc 0x401000\nfn demo::f\n  s = <unavailable>\n",
     },
     Paused {
         layout: SLICED,
         snapshot: "pc 0x40100f\nreg rsi 0x2\nreg rdi 0x3000\nmem 0x3000 0708\n",
-        wanted: "pc 0x40100f\nfn demo::sum\n  items = &[0x3000; 2] -> [7, 8]\n",
+        wanted: "pc 0x40100f\nfn demo::f\n  s = &[0x3000; 2] -> [7, 8]\n",
     },
     // The entry has ended, and the body has not.
     Paused {
         layout: SLICED,
         snapshot: "pc 0x401010\nreg rsi 0x2\nreg rdi 0x3000\nmem 0x3000 0708\n",
-        wanted: "pc 0x401010\nfn demo::sum\n  items = <unavailable>\n",
+        wanted: "pc 0x401010\nfn demo::f\n  s = <unavailable>\n",
     },
     Paused {
         layout: SLICED,
@@ -226,12 +251,12 @@ pub const COMPILED: [Paused; 8] = [
     Paused {
         layout: COMPUTED,
         snapshot: "pc 0x401000\nreg rsp 0x7000\nmem 0x7008 0a00000000000000\n",
-        wanted: "pc 0x401000\nfn demo::add\n  x = 14\n",
+        wanted: "pc 0x401000\nfn demo::h\n  x = 14\n",
     },
     Paused {
         layout: COMPUTED,
         snapshot: "pc 0x401000\nreg rsp 0x7000\nmem 0x7008 0a000000000000\n",
-        wanted: "pc 0x401000\nfn demo::add\n  x = <unavailable>\n",
+        wanted: "pc 0x401000\nfn demo::h\n  x = <unavailable>\n",
     },
     Paused {
         layout: DEBUG_MAIN,

@@ -1,8 +1,13 @@
 use Rattle.std.proofs.Common.{◌≡◌, ◌++◌, take}
-use Rattle.std.specs.List.{flat_map}
+use Rattle.std.specs.List.{flat_map, All}
 use Rattle.layout_file.specs.Sets.{part_text, var_lines}
+use Rattle.layout_model.specs.Counts.{var_parts}
+use Rattle.layout_file.proofs.FuncLines.{HasLines}
 use Rattle.layout_file.proofs.func_writer.put_vars.Given as goal
 
--- the lines so far are put
+-- the lines so far are put, and those of variables that are not too large are lines
 abbrev pub invariant-loop-var : goal.invariant-loop-var
-invariant-loop-var l = l.out ≡ l.initial.out ++ flat_map part_text (flat_map var_lines (take l.var-index l.vars))
+invariant-loop-var l = record {
+  put : l.out ≡ l.initial.out ++ flat_map part_text (flat_map var_lines (take l.var-index l.vars));
+  are_lines : All (HasLines var_parts var_lines) (take l.var-index l.vars);
+}

@@ -1,9 +1,14 @@
 use Rattle.std.proofs.Common.{◌≡◌, ◌++◌, map, take}
-use Rattle.std.specs.List.{flat_map}
+use Rattle.std.specs.List.{flat_map, All}
+use Rattle.layout_model.specs.Law10.{IsNamed}
 use Rattle.layout_file.specs.declared.line.Line.TheVariants as lines
+use Rattle.layout_file.specs.Lines.{IsLine}
 use Rattle.layout_file.specs.Sets.{part_text}
 use Rattle.layout_file.proofs.line_writer.put_statics.Given as goal
 
--- the lines so far are put
+-- the lines so far are put, and are lines
 abbrev pub invariant-loop-item : goal.invariant-loop-item
-invariant-loop-item l = l.out ≡ l.initial.out ++ flat_map part_text (map (λ s. lines.Static s) (take l.item-index l.statics))
+invariant-loop-item l = record {
+  put : l.out ≡ l.initial.out ++ flat_map part_text (map (λ s. lines.Static s) (take l.item-index l.statics));
+  are_lines : All (λ s. IsNamed s.name → IsLine (lines.Static s)) (take l.item-index l.statics);
+}

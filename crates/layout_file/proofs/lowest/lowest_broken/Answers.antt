@@ -1,5 +1,5 @@
 use Rattle.std.proofs.Common.{◌≡◌, ◌∙◌, sym, ap, drop, None}
-use Rattle.layout_file.specs.Faults.{lower, lowest_broken}
+use Rattle.layout_file.specs.LineRules.{lower, lowest_broken}
 use Rattle.layout_file.specs.Steps.{lent}
 use Rattle.layout_file.proofs.Unfit.{lower_none, lowest_none}
 use Rattle.layout_file.proofs.lowest.lowest_broken.Goals as goal

@@ -1,5 +1,5 @@
 use Rattle.std.proofs.Common.{◌≡◌, drop}
-use Rattle.layout_file.specs.Faults.{lower, lowest_broken}
+use Rattle.layout_file.specs.LineRules.{lower, lowest_broken}
 use Rattle.layout_file.specs.Steps.{lent}
 use Rattle.layout_file.proofs.lowest.lowest_broken.Given as goal
 

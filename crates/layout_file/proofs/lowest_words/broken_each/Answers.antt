@@ -1,5 +1,5 @@
-use Rattle.std.proofs.Common.{◌≡◌, ◌∙◌, ap, Some}
-use Rattle.layout_file.specs.Faults.{lower, lowest_of, broken_op}
+use Rattle.std.proofs.Common.{◌∙◌, ap}
+use Rattle.layout_file.specs.LineRules.{lower, lowest_of, broken_op}
 use Rattle.layout_file.specs.Forms.{words, left_words}
 use Rattle.layout_file.specs.Steps.{lent}
 use Rattle.layout_file.proofs.LowestWords.{lowest_step}

@@ -1,6 +1,6 @@
 use Rattle.std.proofs.Common.{◌≡◌, ◌+◌, ℕ, List, Option, Some, None, length}
 use Rattle.std.specs.Borrow.{Bor}
-use Rattle.layout_file.specs.Faults.{lower, lowest_of, broken_zone}
+use Rattle.layout_file.specs.LineRules.{lower, lowest_of, broken_zone}
 use Rattle.layout_file.specs.Forms.{words, left_words}
 use Rattle.layout_file.specs.Steps.{lent}
 use Rattle.layout_file.proofs.lowest_words.broken_zones.Given as goal

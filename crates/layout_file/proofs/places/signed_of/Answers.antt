@@ -1,4 +1,4 @@
-use Rattle.std.proofs.Common.{sym, arith}
+use Rattle.std.proofs.Common.{arith}
 use Rattle.layout_file.proofs.SignedNumbers.{number_fits}
 use Rattle.layout_file.proofs.places.signed_of.Goals as goal
 

@@ -1,4 +1,4 @@
-use Rattle.std.proofs.Common.{◌≡◌, ◌∙◌, sym, length, true, false}
+use Rattle.std.proofs.Common.{◌≡◌, ◌∙◌, sym, length, true}
 use Rattle.layout_file.specs.Lines.{kind_of_line}
 use Rattle.layout_file.specs.Sets.{may_follow}
 use Rattle.layout_file.proofs.LineLaws.{line_text_of}

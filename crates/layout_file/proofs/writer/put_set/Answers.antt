@@ -1,8 +1,14 @@
-use Rattle.std.proofs.Common.{◌≡◌, ◌∙◌, sym, ap, subst, ◌++◌, append_assoc, map, OnOk}
-use Rattle.std.specs.List.{flat_map}
+use Rattle.std.proofs.Common.{◌≡◌, ◌∙◌, sym, ap, subst, ◌++◌, append_assoc, map, OnOk, ◌≤◌, List}
+use Rattle.std.specs.List.{flat_map, All, sum_by}
+use Rattle.std.proofs.lemmas.Result.{on_ok_weaker}
+use Rattle.layout_model.specs.declared.func.Func.{Func}
+use Rattle.layout_model.specs.Counts.{func_parts}
+use Rattle.layout_model.specs.Law10.{IsNamed, AreNamed}
 use Rattle.layout_file.specs.declared.line.Line.TheVariants as lines
+use Rattle.layout_file.specs.Lines.{IsLine}
 use Rattle.layout_file.specs.Sets.{head_text, texts, type_lines, func_lines, part_text}
 use Rattle.layout_file.proofs.FuncTexts.{layout_text_parts}
+use Rattle.layout_file.proofs.TypeLines.{set_spelled}
 use Rattle.layout_file.proofs.writer.put_set.Goals as goal
 
 -- the head, the types, the statics and the functions are the whole text
@@ -22,3 +28,13 @@ returns-clause-put c =
     let f = subst (λ o. OnOk c.put_funcs.result (after ≡ o ++ funcs)) e a in
     subst (λ l. OnOk c.put_funcs.result (after ≡ l))
     (append_assoc ((old ++ head) ++ types) statics funcs ∙ append_assoc (old ++ head) types (statics ++ funcs) ∙ append_assoc old head (types ++ (statics ++ funcs)) ∙ ap (λ t. old ++ t) (sym (layout_text_parts set))) f
+
+-- the lines of the types, of the statics and of the functions are lines
+pub returns-clause-spelled : goal.returns-clause-spelled
+returns-clause-spelled c =
+    let set = c.args.set.now in
+    let types = subst (λ xs. AreNamed xs → All IsLine (flat_map type_lines xs)) c.as_slice.ensures c.in_ok-put_types.ensures.lines in
+    let statics = subst (λ xs. All (λ s. IsNamed s.name) xs → All IsLine (map (λ s. lines.Static s) xs)) c.as_slice-2.ensures c.in_ok-put_statics.ensures.lines in
+    let AreLines = λ (xs : List Func). All (λ f. IsNamed f.name) xs → sum_by func_parts xs ≤ 40000 → All IsLine (flat_map func_lines xs) in
+    let funcs = subst (λ xs. OnOk c.put_funcs.result (AreLines xs)) c.as_slice-3.ensures c.put_funcs.ensures.lines in
+    on_ok_weaker c.put_funcs.result (set_spelled set c.in_ok-put_head.ensures.byte types statics) funcs

@@ -1,9 +1,0 @@
-use Rattle.std.proofs.Common.{drop}
-use Rattle.std.specs.List.{filter}
-use Rattle.layout_model.specs.Contexts.{context_of}
-use Rattle.dbg_command.specs.Lines.{IsFuncText, is_called}
-use Rattle.dbg_command.proofs.InOrder.{Completes, IsFront}
-use Rattle.dbg_command.proofs.printed_funcs.put_called.Given as goal
-
-abbrev pub invariant-loop-func : goal.invariant-loop-func
-invariant-loop-func l = IsFront l.fn.out l.out × Completes (IsFuncText (context_of l.set l.snap.mem l.width) l.snap l.depth) l.fn.out l.out (filter (is_called l.snap.pc) (drop l.func-index l.funcs)) (filter (is_called l.snap.pc) l.funcs)

@@ -1,9 +1,0 @@
-use Rattle.std.proofs.Common.{drop}
-use Rattle.std.specs.List.{filter}
-use Rattle.layout_model.specs.Contexts.{context_of}
-use Rattle.dbg_command.specs.Lines.{AreVarLines, is_entered}
-use Rattle.dbg_command.proofs.InOrder.{Completes, IsFront}
-use Rattle.dbg_command.proofs.printed_funcs.put_scopes.Given as goal
-
-abbrev pub invariant-loop-scope : goal.invariant-loop-scope
-invariant-loop-scope l = IsFront l.fn.out l.out × Completes (AreVarLines (context_of l.set l.snap.mem l.width) l.snap l.depth) l.fn.out l.out (filter (is_entered l.snap.pc) (drop l.scope-index l.scopes)) (filter (is_entered l.snap.pc) l.scopes)
