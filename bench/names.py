@@ -8,15 +8,11 @@ Builds a small program over the crate type_names in a folder of its own, outside
 runs without the start of the program, and the ratio of the second time to the first. Linear time has a ratio near 2.
 """
 import os
-import shutil
-import subprocess
 import sys
 import tempfile
 
+import driver
 import measure
-
-HERE = os.path.dirname(os.path.abspath(__file__))
-CRATES = os.path.join(os.path.dirname(HERE), 'crates')
 
 DRIVER = '''//! Reads a name's text, or writes its name, so many times.
 #![tactic(auto)]
@@ -87,20 +83,11 @@ fn repeat(alloc: Global, task: &Task, text: &[u8]) -> Result<bool, NameErr> {
 
 
 def build(folder):
-    """The program, built by rt over copies of this repository's crates and of what their checks kept."""
-    crates = os.path.join(folder, 'crates')
-    os.makedirs(os.path.join(crates, 'name_times', 'src'))
-    for crate in ['rv_io', 'type_names']:
-        shutil.copytree(os.path.join(CRATES, crate), os.path.join(crates, crate))
-    with open(os.path.join(folder, 'crates.txt'), 'w') as out:
-        out.write('rv_io: thiserror\ntype_names: rv_io itoa thiserror\nname_times: rv_io type_names\n')
-    with open(os.path.join(crates, 'name_times', 'src', 'main.rt'), 'w') as out:
-        out.write(DRIVER)
+    """The program, over a text of its own."""
     text = os.path.join(folder, 'text')
     with open(text, 'w') as out:
         out.write('a')
-    subprocess.run(['rt', 'run', '--', 'read', 'rust', '1', text], cwd=os.path.join(crates, 'name_times'), check=True, stdout=sys.stderr)
-    return os.path.join(crates, 'name_times', 'out', 'name_times')
+    return driver.build(folder, 'name_times', DRIVER, ['rv_io', 'type_names'], ['read', 'rust', '1', text])
 
 
 def args(n, is_cv):

@@ -8,16 +8,13 @@ repository, runs it on the layouts of layouts.py, and prints for each row the be
 peak memory as a multiple of the file's size. Linear time has a ratio near 2.
 """
 import os
-import shutil
-import subprocess
 import sys
 import tempfile
 
+import driver
 import layouts
 import measure
 
-HERE = os.path.dirname(os.path.abspath(__file__))
-CRATES = os.path.join(os.path.dirname(HERE), 'crates')
 BELOW = ['rv_io', 'readers', 'snapshot_file', 'expr_eval', 'type_names', 'rust_value', 'layout_model', 'layout_file']
 
 DRIVER = '''//! Reads a layout file, and writes it back where it is asked to.
@@ -68,22 +65,11 @@ fn task_of<R: Env + AllocGlobal>(rt: &R) -> Option<Task> {
 
 
 def build(folder):
-    """The program, built by rt over copies of this repository's crates and of what their checks kept."""
-    crates = os.path.join(folder, 'crates')
-    os.makedirs(os.path.join(crates, 'write_back', 'src'))
-    with open(os.path.join(os.path.dirname(HERE), 'crates.txt')) as lines:
-        listed = [line for line in lines if line.split(':')[0] in BELOW]
-    for crate in BELOW:
-        shutil.copytree(os.path.join(CRATES, crate), os.path.join(crates, crate))
-    with open(os.path.join(folder, 'crates.txt'), 'w') as out:
-        out.write(''.join(listed) + 'write_back: rv_io layout_file\n')
-    with open(os.path.join(crates, 'write_back', 'src', 'main.rt'), 'w') as out:
-        out.write(DRIVER)
+    """The program, over a layout of nothing."""
     file = os.path.join(folder, 'file')
     with open(file, 'w') as out:
         out.write('rdbg-layout 1\ntarget 8\n')
-    subprocess.run(['rt', 'run', '--', 'write', file], cwd=os.path.join(crates, 'write_back'), check=True, stdout=sys.stderr)
-    return os.path.join(crates, 'write_back', 'out', 'write_back')
+    return driver.build(folder, 'write_back', DRIVER, BELOW, ['write', file])
 
 
 def main():

@@ -1,6 +1,8 @@
 //! rdbg prints the variables of a paused program.
 #![tactic(auto)]
 
+ghost use Rattle.std.specs.Prelude.{◌≡◌, ◌⊎◌, IfErr};
+
 use dbg_command::{Words, run};
 use rv_io::{List, RealInputs, RealSink, Text};
 use std::env;
@@ -27,7 +29,10 @@ fn main(rt: HostRuntime) -> ExitCode {
 }
 
 /// The words without the program's own name, or the status of a run that has none.
-fn words_of<R: Env + AllocGlobal>(rt: &R) -> Result<Words, u8> {
+fn words_of<R: Env + AllocGlobal>(rt: &R) -> Result<Words, u8>
+    // The status tells of want of memory, or of words that can't be read.
+    ensures { IfErr result (λ status. (status ≡ 5) ⊎ (status ≡ 6)) }
+{
     let args = match env::args(rt) {
         Ok(args) => args,
         Err(e) if e.kind() == ErrorKind::OutOfMemory => return Err(NO_MEMORY),

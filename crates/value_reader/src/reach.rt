@@ -25,21 +25,22 @@ use snapshot_file::Mem;
 use std::alloc::Global;
 use type_names::PtrKind;
 
-/// What parts are read in: a set whose types have sizes, the memory, and how many elements are shown at most.
+/// What parts are read in: a set whose types have sizes, the memory, and how many elements are shown at most; and what a value
+/// takes memory from.
 #[derive(Clone, Copy)]
-pub(crate) struct Reach<'a> {
+pub(crate) struct Context<'a> {
+    pub(crate) alloc: Global,
     pub(crate) set: &'a Set,
     pub(crate) mem: &'a Mem,
     pub(crate) width: u32,
 }
 
-impl<'a> Reach<'a> {
+impl<'a> Context<'a> {
     /// What is seen of a type at most so many levels down; `left` is how many nodes may still come.
     #[cycle(see)]
     #[tactic(auto, using(crate::proofs::Levels::nodes_positive))]
     pub(crate) fn see(
         &self,
-        alloc: Global,
         ty: TypeRef,
         image: &Image<'_>,
         depth: u32,
@@ -57,7 +58,7 @@ impl<'a> Reach<'a> {
             TypeRef::Prim(prim) => Ok(see_prim(prim, image)),
             TypeRef::User(i) => match lookup(self.set.types.as_slice(), i) {
                 None => Ok(Seen::Bad),
-                Some(def) => self.see_def(alloc, def, image, depth, levels - 1, left),
+                Some(def) => self.see_def(def, image, depth, levels - 1, left),
             },
         }
     }
@@ -66,7 +67,6 @@ impl<'a> Reach<'a> {
     #[tactic(auto, unfolding(layout_model::specs::Walk::go_def))]
     fn see_def(
         &self,
-        alloc: Global,
         def: &TypeDef,
         image: &Image<'_>,
         depth: u32,
@@ -78,31 +78,31 @@ impl<'a> Reach<'a> {
     {
         match def {
             TypeDef::Struct { fields, .. } => {
-                let parts = self.see_fields(alloc, fields.as_slice(), image, depth, levels, left)?;
+                let parts = self.see_fields(fields.as_slice(), image, depth, levels, left)?;
                 Ok(struct_of(parts))
             }
             TypeDef::Array { elem, count } => {
-                let shown = self.see_array(alloc, *elem, *count, image, depth, levels, left)?;
+                let shown = self.see_array(*elem, *count, image, depth, levels, left)?;
                 Ok(seq_of(*count, shown))
             }
             TypeDef::Thin { kind, to } => match word_at(image, 0) {
                 None => Ok(Seen::Gone),
-                Some(at) => self.see_thin(alloc, *kind, *to, at, depth, levels, left),
+                Some(at) => self.see_thin(*kind, *to, at, depth, levels, left),
             },
             TypeDef::Slice { kind, ptr, .. } => match pointee(self.set.types.as_slice(), *ptr) {
                 None => Ok(Seen::Bad),
-                Some(elem) => self.see_slice(alloc, *kind, elem, image, depth, levels, left),
+                Some(elem) => self.see_slice(*kind, elem, image, depth, levels, left),
             },
-            TypeDef::Str { kind, .. } => self.see_str(alloc, *kind, image, depth, levels, left),
+            TypeDef::Str { kind, .. } => self.see_str(*kind, image, depth, levels, left),
             TypeDef::Dyn { kind, .. } => Ok(see_dyn(*kind, image)),
             TypeDef::FnPtr => Ok(see_function(image)),
-            TypeDef::CLike { tag, cases, .. } => Ok(see_case(alloc, *tag, cases, image)?),
+            TypeDef::CLike { tag, cases, .. } => Ok(see_case(self.alloc, *tag, cases, image)?),
             TypeDef::Enum { tag, variants, .. } => {
-                self.see_enum(alloc, tag, variants.as_slice(), image, depth, levels, left)
+                self.see_enum(tag, variants.as_slice(), image, depth, levels, left)
             }
             TypeDef::Bytes { size, .. } => {
                 count(left, u64::from(*size))?;
-                Ok(bytes_seen(bytes_in(alloc, image)?))
+                Ok(bytes_seen(bytes_in(self.alloc, image)?))
             }
         }
     }
@@ -110,7 +110,6 @@ impl<'a> Reach<'a> {
     #[cycle(see)]
     fn see_fields(
         &self,
-        alloc: Global,
         fields: &[Field],
         image: &Image<'_>,
         depth: u32,
@@ -120,11 +119,11 @@ impl<'a> Reach<'a> {
         requires { HasSizes self.now.set.now }
         ensures { let c = context_of self.now.set.now self.now.mem.now self.now.width in Sees (parts_seen (map (go_field sighting c (seen c levels) depth (part_of image.now)) fields.now)) (named_total (map (go_field counting c (nodes c levels) depth (part_of image.now)) fields.now)) left.old left.new result }
     {
-        let mut parts = Seen::Good(List::new(alloc));
+        let mut parts = Seen::Good(List::new(self.alloc));
         for field in fields {
             let place = part_at(image, u64::from(field.off), size_in(self.set, field.ty));
-            let value = self.see(alloc, field.ty, &place, depth, levels, left)?;
-            parts = push_part(alloc, parts, &field.name, value)?;
+            let value = self.see(field.ty, &place, depth, levels, left)?;
+            parts = push_part(self.alloc, parts, &field.name, value)?;
         }
         Ok(parts)
     }
@@ -132,7 +131,6 @@ impl<'a> Reach<'a> {
     #[cycle(see)]
     fn see_array(
         &self,
-        alloc: Global,
         elem: TypeRef,
         count: u64,
         image: &Image<'_>,
@@ -145,10 +143,10 @@ impl<'a> Reach<'a> {
     {
         let size = size_in(self.set, elem);
         let shown = count.min(u64::from(self.width)) as u32;
-        let mut values = Seen::Good(List::new(alloc));
+        let mut values = Seen::Good(List::new(self.alloc));
         for i in 0..shown {
             let place = part_at(image, offset(i, size), size);
-            let value = self.see(alloc, elem, &place, depth, levels, left)?;
+            let value = self.see(elem, &place, depth, levels, left)?;
             values = push_value(values, value)?;
         }
         Ok(values)
@@ -157,7 +155,6 @@ impl<'a> Reach<'a> {
     #[cycle(see)]
     fn see_thin(
         &self,
-        alloc: Global,
         kind: PtrKind,
         to: TypeRef,
         at: u64,
@@ -175,8 +172,8 @@ impl<'a> Reach<'a> {
             None => Ok(Seen::Good(Val::Pointer(kind, at, None))),
             Some(less) => {
                 let target = Image::of_mem(self.mem, at, size_in(self.set, to));
-                let value = self.see(alloc, to, &target, less, levels, left)?;
-                let content = content_of(alloc, value)?;
+                let value = self.see(to, &target, less, levels, left)?;
+                let content = content_of(self.alloc, value)?;
                 Ok(pointer_of(kind, at, content))
             }
         }
@@ -185,7 +182,6 @@ impl<'a> Reach<'a> {
     #[cycle(see)]
     fn see_slice(
         &self,
-        alloc: Global,
         kind: PtrKind,
         elem: TypeRef,
         image: &Image<'_>,
@@ -197,7 +193,7 @@ impl<'a> Reach<'a> {
         ensures { let c = context_of self.now.set.now self.now.mem.now self.now.width in Sees (go_slice sighting c (seen c levels) depth kind (Some elem) (number_at (part_of image.now) 0 8) (number_at (part_of image.now) 8 8)) (go_slice counting c (nodes c levels) depth kind (Some elem) (number_at (part_of image.now) 0 8) (number_at (part_of image.now) 8 8)) left.old left.new result }
     {
         match (word_at(image, 0), word_at(image, 8)) {
-            (Some(at), Some(len)) => self.see_span(alloc, kind, elem, at, len, depth, levels, left),
+            (Some(at), Some(len)) => self.see_span(kind, elem, at, len, depth, levels, left),
             _ => Ok(Seen::Gone),
         }
     }
@@ -205,7 +201,6 @@ impl<'a> Reach<'a> {
     #[cycle(see)]
     fn see_span(
         &self,
-        alloc: Global,
         kind: PtrKind,
         elem: TypeRef,
         at: u64,
@@ -224,8 +219,8 @@ impl<'a> Reach<'a> {
             None => Ok(Seen::Good(Val::Slice(kind, at, len, None))),
             Some(less) => {
                 count(left, 1)?;
-                let shown = self.see_far(alloc, elem, at, len, less, levels, left)?;
-                let content = content_of(alloc, seq_of(len, shown))?;
+                let shown = self.see_far(elem, at, len, less, levels, left)?;
+                let content = content_of(self.alloc, seq_of(len, shown))?;
                 Ok(slice_of(kind, at, len, content))
             }
         }
@@ -234,7 +229,6 @@ impl<'a> Reach<'a> {
     #[cycle(see)]
     fn see_far(
         &self,
-        alloc: Global,
         elem: TypeRef,
         at: u64,
         len: u64,
@@ -247,10 +241,10 @@ impl<'a> Reach<'a> {
     {
         let size = size_in(self.set, elem);
         let shown = len.min(u64::from(self.width)) as u32;
-        let mut values = Seen::Good(List::new(alloc));
+        let mut values = Seen::Good(List::new(self.alloc));
         for i in 0..shown {
             let target = far_image(self.mem, at, offset(i, size), size);
-            let value = self.see(alloc, elem, &target, depth, levels, left)?;
+            let value = self.see(elem, &target, depth, levels, left)?;
             values = push_value(values, value)?;
         }
         Ok(values)
@@ -258,7 +252,6 @@ impl<'a> Reach<'a> {
 
     fn see_str(
         &self,
-        alloc: Global,
         kind: PtrKind,
         image: &Image<'_>,
         depth: u32,
@@ -269,14 +262,13 @@ impl<'a> Reach<'a> {
         ensures { let c = context_of self.now.set.now self.now.mem.now self.now.width in Sees (go_str sighting c (seen c levels) depth kind (number_at (part_of image.now) 0 8) (number_at (part_of image.now) 8 8)) (go_str counting c (nodes c levels) depth kind (number_at (part_of image.now) 0 8) (number_at (part_of image.now) 8 8)) left.old left.new result }
     {
         match (word_at(image, 0), word_at(image, 8)) {
-            (Some(at), Some(len)) => self.see_text(alloc, kind, at, len, depth, levels, left),
+            (Some(at), Some(len)) => self.see_text(kind, at, len, depth, levels, left),
             _ => Ok(Seen::Gone),
         }
     }
 
     fn see_text(
         &self,
-        alloc: Global,
         kind: PtrKind,
         at: u64,
         len: u64,
@@ -294,7 +286,7 @@ impl<'a> Reach<'a> {
             None => Ok(Seen::Good(Val::Str(kind, at, len, None))),
             Some(_) => {
                 count(left, len)?;
-                Ok(str_of(kind, at, len, text_at(alloc, self.mem, at, len)?))
+                Ok(str_of(kind, at, len, text_at(self.alloc, self.mem, at, len)?))
             }
         }
     }
@@ -302,7 +294,6 @@ impl<'a> Reach<'a> {
     #[cycle(see)]
     fn see_enum(
         &self,
-        alloc: Global,
         tag: &Option<Tag>,
         variants: &[Variant],
         image: &Image<'_>,
@@ -317,7 +308,7 @@ impl<'a> Reach<'a> {
             None => Ok(Seen::Gone),
             Some(number) => match chosen(variants, number) {
                 None => Ok(Seen::Bad),
-                Some(variant) => self.see_variant(alloc, variant, image, depth, levels, left),
+                Some(variant) => self.see_variant(variant, image, depth, levels, left),
             },
         }
     }
@@ -325,7 +316,6 @@ impl<'a> Reach<'a> {
     #[cycle(see)]
     fn see_variant(
         &self,
-        alloc: Global,
         variant: &Variant,
         image: &Image<'_>,
         depth: u32,
@@ -335,8 +325,8 @@ impl<'a> Reach<'a> {
         requires { HasSizes self.now.set.now }
         ensures { let c = context_of self.now.set.now self.now.mem.now self.now.width in Sees (go_variant sighting c (seen c levels) depth (part_of image.now) (Some variant.now)) (go_variant counting c (nodes c levels) depth (part_of image.now) (Some variant.now)) left.old left.new result }
     {
-        let parts = self.see_fields(alloc, variant.fields.as_slice(), image, depth, levels, left)?;
-        Ok(variant_of(alloc, &variant.name, parts)?)
+        let parts = self.see_fields(variant.fields.as_slice(), image, depth, levels, left)?;
+        Ok(variant_of(self.alloc, &variant.name, parts)?)
     }
 }
 

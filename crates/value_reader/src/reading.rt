@@ -5,7 +5,7 @@ ghost use Rattle.layout_model.specs.HasSizes.{HasSizes};
 ghost use Rattle.layout_model.specs.Contexts.{context_of};
 ghost use Rattle.layout_model.specs.Outcomes.{IsOutcome, IsOnlyValue, HasTexts};
 
-use crate::reach::Reach;
+use crate::reach::Context;
 use crate::seen::{Seen, Stop};
 use image_view::Image;
 use layout_model::{Outcome, Set, TypeRef};
@@ -35,9 +35,14 @@ pub fn read_value(
     ensures texts { IfOk result HasTexts }
     ensures only { IfOk result (IsOnlyValue (context_of set.now mem.now width) depth ty (part_of image.entry)) }
 {
-    let reach = Reach { set, mem, width };
+    let context = Context {
+        alloc,
+        set,
+        mem,
+        width,
+    };
     let mut left = MOST_NODES;
-    match reach.see(alloc, ty, &image, depth, 257 * (depth + 1), &mut left) {
+    match context.see(ty, &image, depth, 257 * (depth + 1), &mut left) {
         Ok(Seen::Good(value)) => Ok(Outcome::Value(value)),
         Ok(Seen::Bad) => Ok(Outcome::Invalid),
         Ok(Seen::Gone) => Ok(Outcome::Unavailable),

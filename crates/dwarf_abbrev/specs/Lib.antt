@@ -1,0 +1,9 @@
+pub mod FormCodes
+pub mod Rules
+pub mod Encodings
+pub mod Values
+pub mod Attrs
+pub mod AttrReaders
+pub mod Tables
+pub mod TableReaders
+pub mod Declarations

@@ -1,0 +1,15 @@
+//! Refusals.
+ghost use Rattle.std.specs.Prelude.{◌≡◌};
+ghost use Rattle.rv_bytes.specs.declared.err.DwErr.{DwErr};
+
+use rv_bytes::DwErr;
+
+/// The refusal of the item that begins at a place, by the rule that it breaks.
+pub(crate) fn refused(at: usize, rule: u8) -> DwErr
+    ensures { result ≡ DwErr.Refused at rule }
+{
+    DwErr::Refused {
+        offset: at as u64,
+        rule,
+    }
+}

@@ -1,0 +1,93 @@
+//! Texts by their indexes (DWARF 5, 7.26).
+ghost use Rattle.std.specs.Prelude.{◌≡◌, ◌≢◌, ℕ, IfSome, IfNone, IfOk, IfErr};
+ghost use Rattle.rv_bytes.specs.Results.{ReadsBy};
+ghost use Rattle.rv_bytes.specs.declared.err.DwErr.{DwErr};
+ghost use Rattle.dwarf_lists.specs.Texts.{offset_place, HasOffset, HasText, HasNoText};
+ghost use Rattle.dwarf_lists.specs.TextReaders.{read_text};
+
+use crate::rule;
+use readers::is_text;
+use rv_bytes::{Cut, DwErr};
+
+/// How many bytes an offset has, in 32-bit DWARF.
+const OFFSET_SIZE: u64 = 4;
+
+/// How many bytes a text may have.
+const LONGEST: usize = 65_535;
+
+/// The place of the offset at an index; 2^64 - 1 where it would pass it.
+fn offset_place(base: u64, index: u64) -> u64
+    ensures { result ≡ offset_place base index }
+{
+    base.saturating_add(index.saturating_mul(OFFSET_SIZE))
+}
+
+/// The offset at an index; None where it isn't there whole.
+fn offset_at(offsets: &[u8], base: u64, index: u64) -> Option<u32>
+    ensures stands { IfSome result (HasOffset offsets.now base index) }
+    ensures nowhere { IfNone result ((offset : ℕ) → ¬ HasOffset offsets.now base index offset) }
+{
+    let at = offset_place(base, index);
+    if at >= offsets.len() as u64 {
+        return None;
+    }
+    let mut cut = Cut::from_place(offsets, at as usize);
+    match cut.u32() {
+        Ok(offset) => Some(offset),
+        Err(_) => None,
+    }
+}
+
+/// Reads a text, and moves past its zero byte.
+fn read_text<'a>(cut: &mut Cut<'a>) -> Result<&'a [u8], DwErr>
+    ensures reads { ReadsBy (λ v. v.now) (read_text cut.old.at cut.old.rest) result cut.new }
+    ensures never_memory { IfErr result (λ e. e ≢ DwErr.Memory) }
+{
+    let at = cut.at();
+    let text = cut.zero_text()?;
+    if text.len() <= LONGEST && is_text(text) {
+        return Ok(text);
+    }
+    Err(DwErr::Refused {
+        offset: at as u64,
+        rule: rule::NO_TEXT,
+    })
+}
+
+/// The text at an index. `offsets` is the whole of `.debug_str_offsets`, `base` the unit's
+/// str_offsets_base in bytes from the section's start, and `texts` the whole of `.debug_str`
+/// (DWARF 5, 7.26). At `base` + 4 * `index` stands a text's offset in `texts`, of 4 bytes. The text
+/// is the bytes up to the next zero byte, without it.
+///
+/// Refused by rule 31 where the offset isn't there whole, or is at the end of `texts` or behind it:
+/// the refusal's `offset` is then `base` + 4 * `index`, in bytes from the start of
+/// `.debug_str_offsets`, and 2^64 - 1 where that would pass it. Refused by rule 12 where no zero byte
+/// follows, and by rule 14 where the text isn't UTF-8 or has more than 65,535 bytes: the refusal's
+/// `offset` is then where the text begins, in bytes from the start of `.debug_str`. Takes no memory.
+pub fn indexed_text<'a>(
+    offsets: &[u8],
+    base: u64,
+    index: u64,
+    texts: &'a [u8],
+) -> Result<&'a [u8], DwErr>
+    // The index leads to the text.
+    ensures text { IfOk result (λ t. HasText offsets.now base index texts.now t.now) }
+
+    // Where the index leads nowhere or to no text, the refusal says why.
+    ensures refused { IfErr result (HasNoText offsets.now base index texts.now) }
+    ensures never_memory { IfErr result (λ e. e ≢ DwErr.Memory) }
+{
+    let outside = DwErr::Refused {
+        offset: offset_place(base, index),
+        rule: rule::OUTSIDE,
+    };
+    let Some(offset) = offset_at(offsets, base, index) else {
+        return Err(outside);
+    };
+    let place = offset as usize;
+    if place >= texts.len() {
+        return Err(outside);
+    }
+    let mut cut = Cut::from_place(texts, place);
+    read_text(&mut cut)
+}

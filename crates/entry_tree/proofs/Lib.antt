@@ -1,0 +1,13 @@
+pub mod Finds
+pub mod Ways
+pub mod Nodes
+pub mod Changes
+pub mod Offsets
+pub mod Pushes
+pub mod Trees
+pub mod Forests
+pub mod Insertions
+pub mod OpenWays
+pub mod OneForest
+pub mod Parents
+pub mod ForestOrder

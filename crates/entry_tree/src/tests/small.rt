@@ -1,0 +1,118 @@
+//! Two units of seven entries.
+use super::{ROWS, put_rows};
+use crate::{Node, Tree};
+use std::test::Fail;
+
+/// The first child and the next sibling of each entry, by hand.
+const LINKS: [(Option<u32>, Option<u32>); 7] = [
+    (Some(1), Some(5)),
+    (Some(2), Some(4)),
+    (None, Some(3)),
+    (None, None),
+    (None, None),
+    (Some(6), None),
+    (None, None),
+];
+
+/// Numbers, and the children that they have. There is no entry 7.
+const CHILDREN: [(u32, &[u32]); 9] = [
+    (0, &[1, 4]),
+    (1, &[2, 3]),
+    (2, &[]),
+    (3, &[]),
+    (4, &[]),
+    (5, &[6]),
+    (6, &[]),
+    (7, &[]),
+    (0xffff_ffff, &[]),
+];
+
+/// Offsets, and the entries that begin there.
+const OFFSETS: [(u64, Option<u32>); 13] = [
+    (0x0c, Some(0)),
+    (0x2a, Some(1)),
+    (0x43, Some(2)),
+    (0x4e, Some(3)),
+    (0x59, Some(4)),
+    (0x6c, Some(5)),
+    (0x8a, Some(6)),
+    (0x00, None),
+    (0x0b, None),
+    (0x2b, None),
+    (0x58, None),
+    (0x8b, None),
+    (0xffff_ffff_ffff_ffff, None),
+];
+
+/// Parents and offsets, and whether an entry may come there behind the seven.
+const PLACES: [(Option<u32>, u64, bool); 9] = [
+    (None, 0x8b, true),
+    (Some(5), 0x8b, true),
+    (Some(6), 0x8b, true),
+    (None, 0x8a, false),
+    (Some(6), 0x89, false),
+    (Some(0), 0x8b, false),
+    (Some(4), 0x8b, false),
+    (Some(7), 0x8b, false),
+    (Some(0xffff_ffff), 0x8b, false),
+];
+
+#[test]
+fn seven_entries_have_the_links_of_their_parents(rt: HostRuntime) -> Result<(), Fail> {
+    let mut tree = Tree::new(rt.alloc());
+    assert!(rt; tree.is_empty());
+    put_rows(&mut tree)?;
+    assert!(rt; tree.len() == 7 && !tree.is_empty());
+    for (number, ((up, offset, unit, code, tag), (first, next))) in (0..7).zip(
+        ROWS.iter().zip(&LINKS),
+    ) {
+        let wanted = Node {
+            offset: *offset,
+            unit: *unit,
+            code: *code,
+            tag: *tag,
+            first: *first,
+            next: *next,
+            up: *up,
+        };
+        assert!(rt; tree.entry(number).copied() == Some(wanted), "{number}");
+    }
+    assert!(rt; tree.entry(7).is_none());
+    Ok(())
+}
+
+#[test]
+fn children_come_in_order(rt: HostRuntime) -> Result<(), Fail> {
+    let mut tree = Tree::new(rt.alloc());
+    put_rows(&mut tree)?;
+    for (number, wanted) in CHILDREN {
+        let mut left = wanted.iter();
+        for child in tree.children(number) {
+            assert!(rt; left.next() == Some(&child), "{child} of {number}");
+        }
+        assert!(rt; left.next().is_none(), "{number}");
+    }
+    Ok(())
+}
+
+#[test]
+fn an_entry_is_found_where_it_begins(rt: HostRuntime) -> Result<(), Fail> {
+    let mut tree = Tree::new(rt.alloc());
+    assert!(rt; tree.at_offset(0).is_none());
+    put_rows(&mut tree)?;
+    for (offset, wanted) in OFFSETS {
+        assert!(rt; tree.at_offset(offset) == wanted, "{offset}");
+    }
+    Ok(())
+}
+
+#[test]
+fn an_entry_may_come_on_the_way_from_the_last(rt: HostRuntime) -> Result<(), Fail> {
+    let mut tree = Tree::new(rt.alloc());
+    assert!(rt; tree.may_push(None, 0) && !tree.may_push(Some(0), 0));
+    put_rows(&mut tree)?;
+    for (under, offset, wanted) in PLACES {
+        assert!(rt; tree.may_push(under, offset) == wanted, "{offset}");
+    }
+    Ok(())
+}

@@ -1,0 +1,16 @@
+pub mod Exact
+pub mod Rows
+pub mod Turns
+pub mod ByteNumbers
+pub mod Lebs
+pub mod ZeroTexts
+pub mod Leaves
+pub mod Calls
+pub mod Sections
+pub mod Puts
+pub mod Bits
+pub mod LebCalls
+pub mod Shortest
+pub mod Counts
+pub mod LeafCalls
+pub mod LeafBytes

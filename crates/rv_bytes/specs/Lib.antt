@@ -1,0 +1,12 @@
+pub mod Places
+pub mod Rules
+pub mod Forms
+pub mod Numbers
+pub mod Leaves
+pub mod Reads
+pub mod Readers
+pub mod NumberReaders
+pub mod Results
+pub mod Sections
+pub mod Writers
+pub mod Laws
