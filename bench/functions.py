@@ -4,7 +4,7 @@
     bench/functions.py PROGRAM [DIRECTORY]
 
 The layouts are those of functions that layouts.py makes: many variables, scopes beside and inside one another, many entries of one variable
-and many pieces of one entry. The program counter stands in the last zone or entry of all, so that as much as can be is looked at, and the
+and many pieces of one entry. The program counter is in the last zone or entry of all, so that as much as can be is looked at, and the
 registers and the memory that the variables name are there. Prints for each the best of three times, the ratio of the second time to the
 first, and the peak memory as a multiple of the files' size. Linear time has a ratio near 2.
 """
@@ -23,7 +23,7 @@ def write_snapshot(path, pc, bytes_below):
         out.write('mem 0x%x %s\n' % (FRAME - bytes_below, '07' * bytes_below))
 
 
-# The name, the shapes of the layouts for n and 2n, and where the program counter stands in each.
+# The name, the shapes of the layouts for n and 2n, and where the program counter is in each.
 ROWS = [
     ('one scope', (1, 0, 0, 10000, 1, 8, layouts.in_memory), (1, 0, 0, 20000, 1, 8, layouts.in_memory), lambda shape: 0),
     ('scopes', (1, 9000, 1, 1, 0, 8, layouts.in_memory), (1, 18000, 1, 1, 0, 8, layouts.in_memory), lambda shape: shape[1] - 1),

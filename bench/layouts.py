@@ -37,7 +37,7 @@ def write_scope(out, depth, lo, hi, variables, entries, location):
 
 
 def write_function(out, number, towers, depth, variables, entries, location):
-    """A function whose body has so many scopes beside one another, in each of which others stand inside one another, so many deep."""
+    """A function whose body has so many scopes beside one another, in each of which others are inside one another, so many deep."""
     size = max(1, entries)
     tower = depth * size
     begin = 0x400000 + number * (towers * tower + size)

@@ -1,7 +1,7 @@
 """What the scripts share: running a program, and the rows of a table of n and 2n. No script by itself.
 
 A program starts with the memory that its parent ever held counted as its own, and the scripts hold much. So each program is
-started by a small interpreter that runs this file: a peak is never told below that one's, about 10 MB.
+started by a small interpreter that runs this file: a peak is never reported below that one's, about 10 MB.
 """
 import contextlib
 import os
@@ -54,7 +54,7 @@ def print_row(name, size, once, twice):
 
 
 def start():
-    """Runs the words behind the number of a pipe, writes the seconds and the peak to the pipe, and ends with the status."""
+    """Runs the words after the number of a pipe, writes the seconds and the peak to the pipe, and ends with the status."""
     tell = int(sys.argv[1])
     os.set_inheritable(tell, False)
     begin = time.perf_counter()

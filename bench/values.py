@@ -43,7 +43,7 @@ def write_layout(path, statics):
 
 
 def write_snapshot(path, statics, size):
-    """So many rows, and behind them letters, in lines of 4,096 bytes."""
+    """So many rows, and after them letters, in lines of 4,096 bytes."""
     rng = random.Random(statics)
     text_at = BASE + 48 * statics
     letters = size - 48 * statics

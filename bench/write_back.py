@@ -15,7 +15,8 @@ import driver
 import layouts
 import measure
 
-BELOW = ['rv_io', 'readers', 'snapshot_file', 'expr_eval', 'type_names', 'rust_value', 'layout_model', 'layout_file']
+BELOW = ['rv_io', 'readers', 'snapshot_file', 'expr_eval', 'names', 'rust_names', 'cv_names', 'type_names', 'layout_set', 'layout_words',
+         'layout_lines', 'layout_rules', 'layout_builder', 'layout_writer', 'layout_reader', 'layout_file']
 
 DRIVER = '''//! Reads a layout file, and writes it back where it is asked to.
 #![tactic(auto)]
