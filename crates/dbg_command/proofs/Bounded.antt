@@ -7,7 +7,7 @@ use Rattle.std.specs.Fmt.{decimal}
 use Rattle.std.specs.Str.{bytes_eq}
 use Rattle.std.specs.Str.Parse.{digits_value}
 use Rattle.readers.proofs.HexWords.{both}
-use Rattle.layout_file.proofs.Decimals.{numeral, one_decimal}
+use Rattle.layout_words.proofs.Decimals.{numeral, one_decimal}
 use Rattle.dbg_command.specs.Forms.{number_from}
 
 pub number_some : (least most : ℕ) (word : List ℕ) (n : ℕ) → least ≤ n → n ≤ most → (n < 2 ^ 128) × (word ≡ decimal n) → Some n ≡ number_from least most word

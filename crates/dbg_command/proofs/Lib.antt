@@ -3,3 +3,8 @@ pub mod Text
 pub mod InOrder
 pub mod Endings
 pub mod Puts
+pub mod OneReading
+pub mod OnePrint
+pub mod OneEnding
+pub mod SomeEnding
+pub mod Accepted

@@ -2,14 +2,14 @@
 use Rattle.std.specs.Prelude.{◌≡◌, ℕ, nat_lt, List, [], length, Option, Some, None, Result, Ok, Err, codes, Bool, true, false}
 use Rattle.std.specs.Bool.{Decides}
 use Rattle.rv_io.specs.Files.{Files, file}
-use Rattle.layout_model.specs.declared.set.Set.{Set}
-use Rattle.layout_model.specs.declared.breach.CheckErr.{CheckErr}
-use Rattle.layout_model.specs.declared.breach.CheckErr.TheVariants as checks
-use Rattle.layout_model.specs.FirstBreach.{Checked}
-use Rattle.layout_model.specs.Laws.{laws}
-use Rattle.layout_model.specs.Honest.{IsHonest}
-use Rattle.layout_file.specs.declared.layout_err.LayoutErr.{LayoutErr}
-use Rattle.layout_file.specs.declared.layout_err.LayoutErr.TheVariants as layouts
+use Rattle.layout_set.specs.declared.set.Set.{Set}
+use Rattle.layout_set.specs.declared.breach.CheckErr.{CheckErr}
+use Rattle.layout_set.specs.declared.breach.CheckErr.TheVariants as checks
+use Rattle.layout_set.specs.FirstBreach.{Checked}
+use Rattle.layout_set.specs.Laws.{laws}
+use Rattle.layout_honest.specs.Honest.{IsHonest}
+use Rattle.layout_reader.specs.declared.layout_err.LayoutErr.{LayoutErr}
+use Rattle.layout_reader.specs.declared.layout_err.LayoutErr.TheVariants as layouts
 use Rattle.layout_file.specs.Claims.{IsReading}
 use Rattle.snapshot_file.specs.declared.snapshot.Snapshot.{Snapshot}
 use Rattle.snapshot_file.specs.declared.fault.SnapErr.{SnapErr}

@@ -4,3 +4,4 @@ pub mod Runs
 pub mod Progress
 pub mod Lines
 pub mod Answers
+pub mod OneEnding

@@ -5,19 +5,19 @@ use Rattle.readers.specs.Hex.{hex_text}
 use Rattle.snapshot_file.specs.Memory.{items_at}
 use Rattle.snapshot_file.specs.declared.snapshot.Snapshot.{Snapshot}
 use Rattle.rust_value.specs.Texts.{text_of}
-use Rattle.layout_model.specs.declared.func.Func.{Func}
-use Rattle.layout_model.specs.declared.func.Scope.{Scope}
-use Rattle.layout_model.specs.declared.func.Var.{Var}
-use Rattle.layout_model.specs.declared.func.Zone.{Zone}
-use Rattle.layout_model.specs.declared.set.Set.{Set}
-use Rattle.layout_model.specs.declared.set.TypeRef.{TypeRef}
-use Rattle.layout_model.specs.declared.set.Static.{Static}
-use Rattle.layout_model.specs.declared.outcome.Outcome.{Outcome}
-use Rattle.layout_model.specs.declared.outcome.Outcome.TheVariants.{Value, Unavailable, Invalid, TooLarge}
-use Rattle.layout_model.specs.Contexts.{Items, Context, context_of}
-use Rattle.layout_model.specs.Outcomes.{IsOutcome}
-use Rattle.layout_model.specs.Places.{place_of}
-use Rattle.layout_model.specs.Sizes.{size}
+use Rattle.layout_set.specs.declared.func.Func.{Func}
+use Rattle.layout_set.specs.declared.func.Scope.{Scope}
+use Rattle.layout_set.specs.declared.func.Var.{Var}
+use Rattle.layout_set.specs.declared.func.Zone.{Zone}
+use Rattle.layout_set.specs.declared.set.Set.{Set}
+use Rattle.layout_set.specs.declared.set.TypeRef.{TypeRef}
+use Rattle.layout_set.specs.declared.set.Static.{Static}
+use Rattle.layout_values.specs.declared.outcome.Outcome.{Outcome}
+use Rattle.layout_values.specs.declared.outcome.Outcome.TheVariants.{Value, Unavailable, Invalid, TooLarge}
+use Rattle.layout_values.specs.Contexts.{Items, Context, context_of}
+use Rattle.layout_values.specs.Outcomes.{IsOutcome}
+use Rattle.layout_values.specs.Places.{place_of}
+use Rattle.layout_set.specs.Sizes.{size}
 use Rattle.layout_file.specs.Spellings.{name_text}
 
 -- what stands behind the ` = `
@@ -29,7 +29,7 @@ outcome_text (Value v) = text_of v
 
 -- what is shown of a static of this type at this address: that of the bytes there; one without an address is unavailable
 abbrev pub IsShownAt : Context → ℕ → TypeRef → Option ℕ → Outcome → Type 0
-IsShownAt c depth ty (Some at) o = IsOutcome c depth ty (items_at c.memory at (size c.types ty)) o
+IsShownAt c depth ty (Some at) o = IsOutcome c depth ty (items_at c.memory at (size c.ptr c.types ty)) o
 IsShownAt c depth ty None o = o ≡ Unavailable
 
 -- names stand as in a layout file: a proper name in Rust's spelling, a raw one in quotes
@@ -50,7 +50,7 @@ var_line v o = codes "  " ++ v.name ++ codes " = " ++ outcome_text o ++ 10 ∷ [
 
 -- the line of the variable, with the outcome of what its first entry for the program counter gives
 abbrev pub IsVarLine : Context → Snapshot → ℕ → Var → List ℕ → Type 0
-IsVarLine c snap depth v line = (o : Outcome) × IsShownIn c depth v.ty (place_of snap v.entries (size c.types v.ty)) o × (line ≡ var_line v o)
+IsVarLine c snap depth v line = (o : Outcome) × IsShownIn c depth v.ty (place_of c.ptr snap v.entries (size c.ptr c.types v.ty)) o × (line ≡ var_line v o)
 
 -- a text for each item, in order
 abbrev pub AreEach : {A : Type 0} → (A → List ℕ → Type 0) → List A → List ℕ → Type 0

@@ -52,6 +52,9 @@ Fetched told name limit before now (Err _) = ⊥
 pub record Ends (named : Type 0) (told : Option Files) (Holds : Files → ℕ → List ℕ → List ℕ → Type 0) (reads_before reads_now writes_before writes_now : ℕ) (code : ℕ) (output text : List ℕ) : Type 0 where
   -- with 0, 1 and 2 the status, the output and the message are those that the files lead to
   pub answered : code < 3 → IfSome told (λ files. Holds files code output text)
+  -- with 0 nothing is said; with 1 the message is that of a stop of this status
+  pub silent : code ≡ 0 → text ≡ []
+  pub stopped : code ≡ 1 → (stop : Stop) × (status_of stop ≡ 1) × (text ≡ message stop)
   -- with 1 and 2 nothing was put out
   pub refused : 1 ≤ code → code ≤ 2 → output ≡ []
   -- with 2, and only then, the words have no form

@@ -1,9 +1,9 @@
 -- The statuses and the messages of runs that end without an answer.
 use Rattle.std.specs.Prelude.{ℕ, List, [], ◌∷◌, ◌++◌, codes, decimal}
-use Rattle.layout_model.specs.declared.breach.Item.{Item}
-use Rattle.layout_model.specs.declared.breach.Item.TheVariants.{Whole, Def, Static, Func}
-use Rattle.layout_file.specs.declared.layout_err.Count.{Count}
-use Rattle.layout_file.specs.declared.layout_err.Count.TheVariants.{Types, Parts, Variables}
+use Rattle.layout_set.specs.declared.breach.Item.{Item}
+use Rattle.layout_set.specs.declared.breach.Item.TheVariants.{Whole, Def, Static, Func}
+use Rattle.layout_reader.specs.declared.layout_err.Count.{Count}
+use Rattle.layout_reader.specs.declared.layout_err.Count.TheVariants.{Types, Parts, Variables}
 use Rattle.dbg_command.specs.declared.stop.Stop.{Stop}
 use Rattle.dbg_command.specs.declared.stop.Stop.TheVariants as stops
 

@@ -1,7 +1,7 @@
 //! The answer to the words of a command line.
 ghost use Rattle.std.specs.Prelude.{◌≡◌, ◌≤◌, ◌<◌, [], Some, IsSome, IfOk, ⊤};
-ghost use Rattle.layout_model.specs.Laws.{IsLawful};
-ghost use Rattle.layout_model.specs.Law10.{IsSet};
+ghost use Rattle.layout_set.specs.Laws.{IsLawful};
+ghost use Rattle.layout_set.specs.IsSet.{IsSet};
 ghost use Rattle.dbg_command.specs.Forms.{form_of, named, IsShallow};
 ghost use Rattle.dbg_command.specs.Answers.{Answers, OfForm, OfSet, OfLawful, OfCheck, OfText, honesty_text};
 ghost use Rattle.dbg_command.specs.Runs.{Gives, Fetched, Fits};
@@ -10,7 +10,8 @@ use crate::form::{Form, form_of, layout_name};
 use crate::printed::lines;
 use crate::stop::Stop;
 use layout_file::LayoutErr;
-use layout_model::{CheckErr, Set, is_honest};
+use layout_honest::is_honest;
+use layout_set::{CheckErr, Set};
 use rv_io::{Buf, FetchErr, Inputs, Memory, Text};
 use snapshot_file::SnapErr;
 use std::alloc::Global;

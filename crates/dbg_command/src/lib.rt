@@ -4,6 +4,7 @@
 mod answer;
 mod command;
 mod form;
+mod laws;
 mod printed;
 mod printed_funcs;
 mod shown;
@@ -11,7 +12,5 @@ mod stop;
 mod view;
 
 pub use command::{Words, run};
+pub use laws::{a_run_has_an_ending, a_run_has_one_ending, accepted_files_are_answered};
 pub use printed::lines;
-
-#[cfg(test)]
-mod tests;

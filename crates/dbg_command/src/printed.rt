@@ -1,17 +1,18 @@
 //! The printed lines: the program counter, the statics, and then the functions.
 ghost use Rattle.std.specs.Prelude.{◌≡◌, ◌++◌, ◌<◌, ◌≤◌, ℕ, List, OnOk, OnErr, IfOk, HoldsAt, length, take};
 ghost use Rattle.image_view.specs.Places.{part_of};
-ghost use Rattle.layout_model.specs.Contexts.{context_of};
-ghost use Rattle.layout_model.specs.HasSizes.{HasSizes};
-ghost use Rattle.layout_model.specs.Law1.{IsWithin};
-ghost use Rattle.layout_model.specs.Outcomes.{HasTexts, IsOutcome};
+ghost use Rattle.layout_values.specs.Contexts.{context_of};
+ghost use Rattle.layout_set.specs.HasSizes.{HasSizes};
+ghost use Rattle.layout_set.specs.Law1.{IsWithin};
+ghost use Rattle.layout_values.specs.Outcomes.{HasTexts, IsOutcome};
 ghost use Rattle.dbg_command.specs.Lines.{AreEach, IsShownAt, IsStaticLine, Prints, pc_line, static_line};
 
 use crate::shown::put_outcome;
 use crate::view::View;
 use image_view::Image;
 use layout_file::put_name;
-use layout_model::{Outcome, Set, Static, TypeRef, size_of};
+use layout_set::{Set, Static, TypeRef, size_of};
+use layout_values::Outcome;
 use rv_io::{Buf, Memory};
 use snapshot_file::Snapshot;
 use std::alloc::Global;

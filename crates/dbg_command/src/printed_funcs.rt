@@ -1,21 +1,25 @@
 //! The printed lines of functions and of their variables.
 ghost use Rattle.std.specs.Prelude.{◌≡◌, ◌++◌, ◌<◌, ◌≤◌, ℕ, List, OnOk, OnErr, IfOk, HoldsAt, length, take};
 ghost use Rattle.std.specs.List.{All, filter, list_any};
-ghost use Rattle.layout_model.specs.Contexts.{context_of};
-ghost use Rattle.layout_model.specs.HasSizes.{HasSizes};
-ghost use Rattle.layout_model.specs.Law1.{VarWithin, VarsWithin, HasVarsWithin};
-ghost use Rattle.layout_model.specs.Outcomes.{HasTexts};
-ghost use Rattle.layout_model.specs.Places.{place_of};
-ghost use Rattle.layout_model.specs.Sizes.{size};
+ghost use Rattle.std.specs.Option.{option_map};
+ghost use Rattle.image_view.specs.Places.{part_of};
+ghost use Rattle.layout_values.specs.Contexts.{context_of};
+ghost use Rattle.layout_set.specs.HasSizes.{HasSizes};
+ghost use Rattle.layout_set.specs.Law1.{VarWithin, VarsWithin, HasVarsWithin};
+ghost use Rattle.layout_values.specs.Outcomes.{HasTexts};
+ghost use Rattle.layout_values.specs.Places.{place_of};
+ghost use Rattle.layout_set.specs.Sizes.{size};
 ghost use Rattle.dbg_command.specs.Lines.{AreEach, AreVarLines, IsFuncText, IsShownIn, IsVarLine, func_line, var_line, is_in, is_entered, is_called, first_is_entered};
 
 use crate::shown::put_outcome;
 use crate::view::View;
 use layout_file::put_name;
-use layout_model::{Func, Outcome, Scope, Var, Zone, size_of};
+use layout_set::{Func, Scope, Set, Var, Zone, size_of};
+use layout_values::Outcome;
 use rv_io::{Buf, Memory};
+use snapshot_file::Snapshot;
 use std::alloc::Global;
-use value_reader::locate;
+use value_reader::{Located, locate};
 
 impl View<'_> {
     /// The functions whose body has the program counter, each with its variables.
@@ -92,15 +96,28 @@ impl View<'_> {
         requires sizes { HasSizes self.now.set.now }
         requires within { VarWithin (length self.now.set.now.types) var.now }
         requires shallow { self.now.depth ≤ 4 }
-        ensures outcome { IfOk result (λ o. IsShownIn (context_of self.now.set.now self.now.snap.now.mem self.now.width) self.now.depth var.now.ty (place_of self.now.snap.now var.now.entries (size self.now.set.now.types var.now.ty)) o) }
+        ensures outcome { IfOk result (λ o. IsShownIn (context_of self.now.set.now self.now.snap.now.mem self.now.width) self.now.depth var.now.ty (place_of self.now.set.now.target.ptr self.now.snap.now var.now.entries (size self.now.set.now.target.ptr self.now.set.now.types var.now.ty)) o) }
         ensures texts { IfOk result HasTexts }
     {
-        let size = size_of(self.set, var.ty);
-        match locate(alloc, &var.entries, size, self.snap)? {
+        match located(alloc, self.set, var, self.snap)? {
             Some(located) => self.outcome_in(alloc, var.ty, located.image()),
             None => Ok(Outcome::Unavailable),
         }
     }
+}
+
+/// Where the variable is, if an entry says so of the program counter.
+fn located<'a>(
+    alloc: Global,
+    set: &Set,
+    var: &'a Var,
+    snap: &'a Snapshot,
+) -> Result<Option<Located<'a>>, Memory>
+    requires sizes { HasSizes set.now }
+    requires within { VarWithin (length set.now.types) var.now }
+    ensures { IfOk result (λ found. option_map (λ l. part_of l) found ≡ place_of set.now.target.ptr snap.now var.now.entries (size set.now.target.ptr set.now.types var.now.ty)) }
+{
+    locate(alloc, &var.entries, size_of(set, var.ty), snap)
 }
 
 /// Whether the body of the function has the program counter.

@@ -1,9 +1,9 @@
 //! What is shown of a variable.
 ghost use Rattle.std.specs.Prelude.{◌≡◌, ◌++◌, OnOk, OnErr, length, take};
-ghost use Rattle.layout_model.specs.Outcomes.{HasTexts};
+ghost use Rattle.layout_values.specs.Outcomes.{HasTexts};
 ghost use Rattle.dbg_command.specs.Lines.{outcome_text};
 
-use layout_model::Outcome;
+use layout_values::Outcome;
 use rust_value::text;
 use rv_io::{Buf, Memory};
 

@@ -5,7 +5,7 @@ ghost use Rattle.dbg_command.specs.Runs.{Says, joined};
 
 use itoa::Buffer;
 use layout_file::Count;
-use layout_model::Item;
+use layout_set::Item;
 use rv_io::{Memory, Sink};
 
 /// Why a run ends without an answer.

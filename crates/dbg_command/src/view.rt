@@ -1,5 +1,5 @@
 //! What is printed of, and how much of it.
-use layout_model::Set;
+use layout_set::Set;
 use snapshot_file::Snapshot;
 
 /// A set over a snapshot, how deep references and boxes are followed, and how many elements of each sequence are shown at

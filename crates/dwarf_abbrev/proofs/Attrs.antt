@@ -16,7 +16,7 @@ use Rattle.dwarf_abbrev.specs.AttrReaders.{read_counted_by, read_laid, read_attr
 use Rattle.dwarf_abbrev.specs.declared.encoding.Encoding.{Encoding}
 use Rattle.dwarf_abbrev.specs.declared.attr.Spec.{Spec}
 
--- of bytes behind their length
+-- of bytes after their length
 counted_exact : (F : Form ℕ ℕ) (read : Reader ℕ ℕ) → Exact F read → Exact (counted F) (read_counted_by read)
 counted_exact F read e = item_exact (follow F bytes) (λ n s. and_then (read n s) read_bytes) any_value (follow_exact F bytes read read_bytes e bytes_exact)
 

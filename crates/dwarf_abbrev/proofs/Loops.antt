@@ -39,7 +39,7 @@ pairs_shorter n t v m k r = shorter pairs (λ _. read_pair) pairs_byte (λ s o. 
 abbrev pub somes : List Abbrev → List (Option Abbrev)
 somes xs = map (λ a. Some a) xs
 
--- behind these declarations the table goes on
+-- after these declarations the table goes on
 abbrev pub behind : List Abbrev → SoFar
 behind list = record { codes = codes_of list; ended = false }
 

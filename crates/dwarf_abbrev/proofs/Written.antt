@@ -30,7 +30,7 @@ head_put spec old one two new e a b c =
 form_holds : (spec : Spec) → IsSpec spec → form_breaks spec.attr spec.form ≡ None
 form_holds spec h = rw h.form refl
 
--- a pair with a number behind it
+-- a pair with a number after it
 pub implicit_put : (spec : Spec) (old one two new : List ℕ) → IsSpec spec → spec.form ≡ implicit_const → AppendsShortest uleb spec.attr old one → AppendsShortest uleb spec.form one two → AppendsShortest sleb spec.fixed two new → IsPut pair spec old new
 implicit_put spec old one two new h e a b c =
     head_put spec old one two new (form_holds spec h) a b
@@ -55,7 +55,7 @@ unfolding encoding_of
 form_not_zero zero h = absurd (cc)
 form_not_zero (suc f) h = ne_eqb (suc f) 0 (λ e. absurd (omega (arith, e)))
 
--- so the pairs go on behind it
+-- so the pairs go on after it
 pub goes_on : (spec : Spec) → IsSpec spec → is_end spec ≡ false
 goes_on spec h = ap (λ b. spec.attr == 0 && b) (form_not_zero spec.form h.form) ∙ (elim (spec.attr == 0) as (λ b. (b && false) ≡ false) [ true ↦ refl | false ↦ refl ])
 
@@ -65,7 +65,7 @@ pairs_more specs i d old mid new all l a b =
     subst (λ vs. IsPart pairs false false vs old new) (sym (ap (λ n. take n specs) (add-one i) ∙ take-suc specs i d l))
     (part_push pairs false false false (take i specs) (get_or specs i d) old mid new a refl b (goes_on (get_or specs i d) (all i d l)))
 
--- the pair 0, 0 behind them
+-- the pair 0, 0 after them
 pub pairs_whole : (specs : List Spec) (i : ℕ) (old mid one new : List ℕ) → length specs ≤ i → IsPart pairs false false (take i specs) old mid → AppendsShortest uleb 0 mid one → AppendsShortest uleb 0 one new → IsPut (row pairs false) (specs ++ end ∷ []) old new
 pairs_whole specs i old mid one new l a b d =
     part_whole pairs false true (specs ++ end ∷ []) old new
@@ -147,7 +147,7 @@ decls_more list i a old mid new l e h p =
     so_far : List ℕ → SoFar
     so_far c = record { codes = c; ended = false }
 
--- the code 0 behind them
+-- the code 0 after them
 pub decls_whole : (list : List Abbrev) (i : ℕ) (old mid new : List ℕ) → length list ≤ i → All (λ code. code ≢ 0) (codes_of list) → IsPart decls fresh (behind (take i list)) (somes (take i list)) old mid → AppendsShortest uleb 0 mid new → IsPut table list old new
 decls_whole list i old mid new l all h a =
     let p : IsPart decls fresh (behind list) (somes list) old mid = subst (λ xs. IsPart decls fresh (behind xs) (somes xs) old mid) (take_all i list l) h in

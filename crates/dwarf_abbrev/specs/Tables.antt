@@ -9,7 +9,7 @@ use Rattle.dwarf_abbrev.specs.Encodings.{encoding_of}
 use Rattle.dwarf_abbrev.specs.declared.attr.Spec.{Spec}
 use Rattle.dwarf_abbrev.specs.declared.decl.Abbrev.{Abbrev}
 
--- whether it is the pair 0, 0, which stands behind the attributes of a declaration
+-- whether it is the pair 0, 0, which stands after the attributes of a declaration
 abbrev pub is_end : Spec → Bool
 is_end p = p.attr == 0 && p.form == 0
 
@@ -25,7 +25,7 @@ form_breaks attr form = if is_some (encoding_of form) then None else if attr == 
 abbrev pub pair_of : ℕ → ℕ → ℤ → Spec
 pair_of attr form fixed = record { attr = attr; form = form; fixed = fixed }
 
--- an attribute, its form, and the number that an implicit_const has behind it
+-- an attribute, its form, and the number that an implicit_const has after it
 abbrev pub pair : Form ℕ Spec
 pair = follow uleb (λ attr. follow (item uleb (form_breaks attr)) (λ form. choose (form == implicit_const) (made (pair_of attr form) sleb) (nothing (pair_of attr form (pos 0)))))
 
@@ -57,11 +57,11 @@ child_breaks n = if nat_lt 1 n then Some children_byte else None
 abbrev pub abbrev_of : ℕ → ℕ → ℕ → List Spec → Abbrev
 abbrev_of code tag child specs = record { code = code; tag = tag; children = child == 1; specs = but_last specs }
 
--- a declaration behind its code: tag, children byte, pairs
+-- a declaration after its code: tag, children byte, pairs
 abbrev pub decl_rest : ℕ → Form ℕ Abbrev
 decl_rest code = follow (item uleb tag_breaks) (λ tag. follow (item (number 1) child_breaks) (λ child. made (abbrev_of code tag child) (row pairs false)))
 
--- a declaration behind those of these codes; None is the code 0, which ends the table
+-- a declaration after those of these codes; None is the code 0, which ends the table
 abbrev pub decl : List ℕ → Form ℕ (Option Abbrev)
 decl codes = follow (item uleb (code_breaks codes)) (λ code. choose (code == 0) (nothing None) (made (λ a. Some a) (decl_rest code)))
 
@@ -70,7 +70,7 @@ pub record SoFar : Type 0 where
   pub codes : List ℕ
   pub ended : Bool
 
--- behind a declaration its code was there, and behind the code 0 the table ends
+-- after a declaration its code was there, and after the code 0 the table ends
 abbrev pub after_decl : SoFar → Option Abbrev → SoFar
 after_decl t None = record { codes = t.codes; ended = true }
 after_decl t (Some a) = record { codes = t.codes ++ a.code ∷ []; ended = false }

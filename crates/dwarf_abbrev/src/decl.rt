@@ -26,7 +26,7 @@ pub struct Abbrev {
     pub specs: List<Spec>,
 }
 
-/// Whether an attribute and a form are the pair 0, 0, which stands behind the attributes.
+/// Whether an attribute and a form are the pair 0, 0, which stands after the attributes.
 fn is_end(attr: u64, form: u64) -> bool
     ensures { result ≡ (attr == 0 && form == 0) }
 {

@@ -20,7 +20,7 @@ pub(crate) enum NumberKind {
     RangeIndex,
 }
 
-/// What bytes behind their length say.
+/// What bytes after their length say.
 #[derive(Clone, Copy, Debug, PartialEq, Eq)]
 pub(crate) enum BytesKind {
     Block,

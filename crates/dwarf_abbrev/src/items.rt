@@ -1,4 +1,4 @@
-//! The parts of attributes' values: what numbers and bytes say, and bytes behind their length.
+//! The parts of attributes' values: what numbers and bytes say, and bytes after their length.
 ghost use Rattle.std.specs.Prelude.{◌≡◌, ◌≢◌, ◌≤◌, IfErr, OnErr};
 ghost use Rattle.rv_bytes.specs.Results.{ReadsBy};
 ghost use Rattle.rv_bytes.specs.Readers.{as_item};

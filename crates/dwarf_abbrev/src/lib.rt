@@ -17,6 +17,3 @@ pub use decl::Abbrev;
 pub use laws::a_table_is_read_one_way;
 pub use put::put_table;
 pub use table::{Table, read_table};
-
-#[cfg(test)]
-mod tests;

@@ -64,7 +64,7 @@ fn put_decls(out: &mut Buf, list: &[Abbrev]) -> Result<(), Memory>
 
 /// Appends the table of these declarations (DWARF 5, 7.5.3).
 ///
-/// After want of memory the buffer is as it was.
+/// Out of memory, the buffer is as it was.
 pub fn put_table(out: &mut Buf, list: &List<Abbrev>) -> Result<(), Memory>
     requires { AreDeclarations list.now }
     ensures appended { OnOk result (IsPut table list.now out.old out.new) }

@@ -132,8 +132,8 @@ fn read_decls(alloc: Global, cut: &mut Cut<'_>) -> Result<Table, DwErr>
 /// Reads the table that begins `at` bytes from the start of `section`, which is the whole of
 /// `.debug_abbrev` (DWARF 5, 7.5.3). What follows the table isn't looked at.
 ///
-/// The `offset` of a refusal is in bytes from the section's start, where the first item at fault
-/// begins; at `at` itself where that is at the section's end or behind it. Its rules: 10 where the
+/// The `offset` of a refusal is in bytes from the section's start, where the first invalid item
+/// begins; at `at` itself where that is at the section's end or after it. Its rules: 10 where the
 /// section ends inside a number, 11 where a LEB128 number is too wide, 24 where `at` is outside the
 /// section, 25 where a children byte is neither 0 nor 1, 26 where an earlier declaration has the code,
 /// or the tag is 0, 28 where a form is none of the constants of [`form`](crate::form). Takes memory for

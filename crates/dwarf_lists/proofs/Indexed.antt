@@ -2,23 +2,19 @@
 use Rattle.std.proofs.Common.{◌≡◌, ◌<◌, ◌≤◌, ℕ, ◌+◌, ◌*◌, List, length, drop, Result, Ok, Err, IfOk, IfErr, inl, inr, refl, sym, subst, ◌∙◌, ◌⊎◌, arith}
 use Rattle.std.proofs.lemmas.Bool.{cases_lt}
 use Rattle.rv_bytes.specs.Forms.{IsDefinite}
-use Rattle.rv_bytes.specs.Numbers.{number, zero_text}
-use Rattle.rv_bytes.specs.NumberReaders.{read_number, read_zero_text}
+use Rattle.rv_bytes.specs.Numbers.{number, text}
+use Rattle.rv_bytes.specs.Rules.{outside}
+use Rattle.rv_bytes.specs.NumberReaders.{read_number, read_text}
 use Rattle.rv_bytes.specs.Places.{Place}
 use Rattle.rv_bytes.specs.Readers.{Res, got, bad}
 use Rattle.rv_bytes.specs.Results.{ReadsBy}
 use Rattle.rv_bytes.specs.Sections.{BeginsAt, HasOneAnswer}
 use Rattle.rv_bytes.specs.declared.err.DwErr.{DwErr}
-use Rattle.rv_bytes.proofs.Exact.{Right, Exact, definite, item_exact}
+use Rattle.rv_bytes.proofs.Exact.{Right, definite}
 use Rattle.rv_bytes.proofs.ByteNumbers.{number_exact}
-use Rattle.rv_bytes.proofs.ZeroTexts.{zero_text_exact}
+use Rattle.rv_bytes.proofs.CheckedTexts.{text_exact}
 use Rattle.rv_bytes.proofs.Sections as sections
-use Rattle.dwarf_lists.specs.Rules.{outside}
-use Rattle.dwarf_lists.specs.Texts.{text_breaks, text, HasOffset, LeadsTo, HasText, offset_place, HasNoText, HasAnswer, IndexHasOneAnswer}
-use Rattle.dwarf_lists.specs.TextReaders.{read_text}
-
-text_exact : Exact text read_text
-text_exact = item_exact zero_text read_zero_text text_breaks zero_text_exact
+use Rattle.dwarf_lists.specs.Texts.{HasOffset, LeadsTo, HasText, offset_place, HasNoText, HasAnswer, IndexHasOneAnswer}
 
 text_definite : IsDefinite text
 text_definite = definite text read_text text_exact
@@ -55,7 +51,7 @@ has_no_text view offsets base index texts offset s i new (Err DwErr.Memory) h = 
 nowhere : (offsets : List ℕ) (base index : ℕ) (texts : List ℕ) → ((offset : ℕ) → ¬ LeadsTo offsets base index texts offset) → HasAnswer offsets base index texts
 nowhere offsets base index texts h = inr (offset_place base index, (outside, inl (h, (refl, refl))))
 
--- what an offset leads to is a text, or at fault as one
+-- what an offset leads to is a text, or invalid as one
 text_answered : (offsets : List ℕ) (base index : ℕ) (texts : List ℕ) (offset : ℕ) → HasOffset offsets base index offset → offset < length texts
     → (x : Res ℕ (List ℕ)) → Right text offset (drop offset texts) x → HasAnswer offsets base index texts
 text_answered offsets base index texts offset s i (got v m k) h =

@@ -1,19 +1,9 @@
 -- The texts that indexes lead to: DWARF 5, 7.26, with offsets of 4 bytes.
-use Rattle.std.specs.Prelude.{◌≡◌, ◌<◌, ℕ, ◌+◌, ◌-◌, ◌*◌, ◌^◌, min, nat_le, ◌&&◌, if◌then◌else◌, List, length, drop, Option, Some, None, ◌⊎◌}
-use Rattle.std.specs.Str.{is_utf8}
-use Rattle.rv_bytes.specs.Forms.{Form, item}
-use Rattle.rv_bytes.specs.Numbers.{number, zero_text}
+use Rattle.std.specs.Prelude.{◌≡◌, ◌<◌, ℕ, ◌+◌, ◌-◌, ◌*◌, ◌^◌, min, List, length, drop, ◌⊎◌}
+use Rattle.rv_bytes.specs.Rules.{outside}
+use Rattle.rv_bytes.specs.Numbers.{number, text}
 use Rattle.rv_bytes.specs.Sections.{BeginsAt}
 use Rattle.rv_bytes.specs.declared.err.DwErr.{DwErr}
-use Rattle.dwarf_lists.specs.Rules.{no_text, outside}
-
--- the rule that bytes break: a text is UTF-8, of at most 65,535 bytes
-abbrev pub text_breaks : List ℕ → Option ℕ
-text_breaks v = if nat_le (length v) 65535 && is_utf8 v then None else Some no_text
-
--- a text, and the zero byte that ends it and is no part of the value
-abbrev pub text : Form ℕ (List ℕ)
-text = item zero_text text_breaks
 
 -- from the base on stand offsets of 4 bytes, which the index counts from 0, and the one at the index is this
 abbrev pub HasOffset : List ℕ → ℕ → ℕ → ℕ → Type 0
@@ -34,8 +24,8 @@ pub record HasText (offsets : List ℕ) (base index : ℕ) (texts value : List �
 abbrev pub offset_place : ℕ → ℕ → ℕ
 offset_place base index = min (base + 4 * index) (2 ^ 64 - 1)
 
--- why the index has no text: no offset at it is inside the texts, or one is, and the bytes from there on are at fault as a text.
--- Memory may always be wanting.
+-- why the index has no text: no offset at it is inside the texts, or one is, and the bytes from there on are invalid as a text.
+-- Memory may always run out.
 abbrev pub HasNoText : List ℕ → ℕ → ℕ → List ℕ → DwErr → Type 0
 HasNoText offsets base index texts (DwErr.Refused at rule) =
     (((offset : ℕ) → ¬ LeadsTo offsets base index texts offset) × ((at ≡ offset_place base index) × (rule ≡ outside)))
@@ -47,7 +37,7 @@ abbrev pub HasAnswer : List ℕ → ℕ → ℕ → List ℕ → Type 0
 HasAnswer offsets base index texts =
     ((v : List ℕ) × HasText offsets base index texts v) ⊎ ((o : ℕ) × ((r : ℕ) × HasNoText offsets base index texts (DwErr.Refused o r)))
 
--- each index has a text or a refusal, at most one of each, and never both; want of memory aside
+-- each index has a text or a refusal, at most one of each, and never both; out of memory aside
 pub record IndexHasOneAnswer : Type 0 where
   pub some_answer : (offsets : List ℕ) (base index : ℕ) (texts : List ℕ) → HasAnswer offsets base index texts
   pub one_text : (offsets : List ℕ) (base index : ℕ) (texts v w : List ℕ) → HasText offsets base index texts v → HasText offsets base index texts w → v ≡ w

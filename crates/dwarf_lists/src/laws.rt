@@ -1,4 +1,4 @@
-//! Laws of indexes, each the contract of a call that does nothing.
+//! Theorems on indexes, each the contract of a call that does nothing.
 ghost use Rattle.dwarf_lists.specs.Texts.{IndexHasOneAnswer};
 
 /// Each index has one text, or one refusal is right, and never both. So

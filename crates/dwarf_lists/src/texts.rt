@@ -1,19 +1,14 @@
 //! Texts by their indexes (DWARF 5, 7.26).
 ghost use Rattle.std.specs.Prelude.{◌≡◌, ◌≢◌, ℕ, IfSome, IfNone, IfOk, IfErr};
+ghost use Rattle.rv_bytes.specs.NumberReaders.{read_text};
 ghost use Rattle.rv_bytes.specs.Results.{ReadsBy};
 ghost use Rattle.rv_bytes.specs.declared.err.DwErr.{DwErr};
 ghost use Rattle.dwarf_lists.specs.Texts.{offset_place, HasOffset, HasText, HasNoText};
-ghost use Rattle.dwarf_lists.specs.TextReaders.{read_text};
 
-use crate::rule;
-use readers::is_text;
-use rv_bytes::{Cut, DwErr};
+use rv_bytes::{Cut, DwErr, rule};
 
 /// How many bytes an offset has, in 32-bit DWARF.
 const OFFSET_SIZE: u64 = 4;
-
-/// How many bytes a text may have.
-const LONGEST: usize = 65_535;
 
 /// The place of the offset at an index; 2^64 - 1 where it would pass it.
 fn offset_place(base: u64, index: u64) -> u64
@@ -43,15 +38,7 @@ fn read_text<'a>(cut: &mut Cut<'a>) -> Result<&'a [u8], DwErr>
     ensures reads { ReadsBy (λ v. v.now) (read_text cut.old.at cut.old.rest) result cut.new }
     ensures never_memory { IfErr result (λ e. e ≢ DwErr.Memory) }
 {
-    let at = cut.at();
-    let text = cut.zero_text()?;
-    if text.len() <= LONGEST && is_text(text) {
-        return Ok(text);
-    }
-    Err(DwErr::Refused {
-        offset: at as u64,
-        rule: rule::NO_TEXT,
-    })
+    Ok(cut.text()?)
 }
 
 /// The text at an index. `offsets` is the whole of `.debug_str_offsets`, `base` the unit's
@@ -59,7 +46,7 @@ fn read_text<'a>(cut: &mut Cut<'a>) -> Result<&'a [u8], DwErr>
 /// (DWARF 5, 7.26). At `base` + 4 * `index` stands a text's offset in `texts`, of 4 bytes. The text
 /// is the bytes up to the next zero byte, without it.
 ///
-/// Refused by rule 31 where the offset isn't there whole, or is at the end of `texts` or behind it:
+/// Refused by rule 31 where the offset isn't there whole, or is at the end of `texts` or after it:
 /// the refusal's `offset` is then `base` + 4 * `index`, in bytes from the start of
 /// `.debug_str_offsets`, and 2^64 - 1 where that would pass it. Refused by rule 12 where no zero byte
 /// follows, and by rule 14 where the text isn't UTF-8 or has more than 65,535 bytes: the refusal's

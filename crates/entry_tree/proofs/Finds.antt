@@ -154,7 +154,7 @@ first_if test k y t false h = h ∙ moved (position_from test (k + 1) t) (λ j e
         let l = g j refl in
         ap (λ n. j ∷ places_from test (j + 1) (drop n (y ∷ t))) (let q : suc (j + 1 - (k + 1)) ≡ j + 1 - k = omega arith in q)
 
--- the places are the first one, and those behind it
+-- the places are the first one, and those after it
 pub places_first : (test : Entry → Bool) (k : ℕ) (t : List Entry) → places_from test k t ≡ places_at test k t (position_from test k t)
 places_first test k [] = refl
 places_first test k (y ∷ t) = first_if test k y t (test y) (places_first test (k + 1) t)

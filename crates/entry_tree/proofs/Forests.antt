@@ -42,7 +42,7 @@ open_from (root o u c t children behind) k i h = each behind h (open_from childr
 differs : (a b : ℕ) → (a ≡ b → ⊥) → (a == b) ≡ false
 differs a b h = eq_not (Some a) (Some b) (λ e. h (let q : a ≡ b = cc in q))
 
--- behind the end nothing changes
+-- after the end nothing changes
 past_all : (f : Forest) (k i : ℕ) (e : Entry) → k + size_of f ≤ i → with_child_from k i e f ≡ f
 past_all empty k i e h = refl
 past_all (root o u c t children behind) k i e h =

@@ -49,7 +49,7 @@ next_there t i k e = each (slice_get t i) refl e
         let l = within t i y at in
         omega (arith, f.before, length-drop (i + 1) t)
 
--- behind the end there is no parent
+-- after the end there is no parent
 pub no_child_past : (t : List Entry) (i : ℕ) → AreEarlier t → length t ≤ i → first_child t i ≡ None
 no_child_past t i earlier h =
     find_none (has_parent (Some i)) 0 t (λ j e at. eq_not e.up (Some i) (λ q. let a = earlier j i (ap (option_and_then (λ x. x.up)) at ∙ q) in let b = within t j e at in omega arith))
@@ -63,7 +63,7 @@ drop_drop t zero n = ap (λ k. drop k t) (let q : n ≡ 0 + n = omega arith in q
 drop_drop [] (suc m) n = drop_none n ∙ sym (drop_none (suc m + n))
 drop_drop (x ∷ t) (suc m) n = drop_drop t m n ∙ ap (λ k. drop k (x ∷ t)) (let q : suc (m + n) ≡ suc m + n = omega arith in q)
 
--- the entries from m on with the parent u are the first of them and its siblings behind it
+-- the entries from m on with the parent u are the first of them and its siblings after it
 pub siblings_are : (t : List Entry) (u : Option ℕ) (m : ℕ) → places_from (has_parent u) m (drop m t) ≡ siblings_from t (position_from (has_parent u) m (drop m t))
 siblings_are t u m = places_first (has_parent u) m (drop m t) ∙ each (position_from (has_parent u) m (drop m t)) refl
   where

@@ -32,7 +32,7 @@ nowhere t offset low below above =
     by_case i e g (inl h) q = let l = below i e h g in omega arith
     by_case i e g (inr h) q = let l = above i e h g in omega arith
 
--- where the entry at m begins behind the offset, all from it on do
+-- where the entry at m begins after the offset, all from it on do
 above_at : (t : List Entry) (offset m : ℕ) (there : Entry) → Rise t → slice_get t m ≡ Some there → offset < there.offset → (i : ℕ) (e : Entry) → m ≤ i → slice_get t i ≡ Some e → offset < e.offset
 above_at t offset m there rise at lt i e h g = by_case (cases_lt m i)
   where

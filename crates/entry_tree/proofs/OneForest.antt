@@ -13,13 +13,13 @@ ends_later : (up : Option ℕ) (k m : ℕ) (t : List Entry) → k ≤ m → Ends
 ends_later up k m [] h e = tt
 ends_later up k m (x ∷ t) h e = (e.0, λ p q. let a = e.1 p q in omega arith)
 
--- behind the children of entry k come its siblings, or what comes behind them
+-- after the children of entry k come its siblings, or what comes after them
 ends_children : (up : Option ℕ) (k m : ℕ) (f : Forest) (t : List Entry) → IsBelow up k → Ends up k t → Ends (Some k) (k + 1) (in_preorder up m f ++ t)
 ends_children up k m empty [] b e = tt
 ends_children up k m empty (x ∷ t) b e = (λ q. let a = e.1 k q in omega arith, λ p q. let a = e.1 p q in omega arith)
 ends_children up k m (root o u c g children behind) t b e = (λ q. let a = b k q in omega arith, λ p q. let a = b p q in omega arith)
 
--- the list of a forest's entries with more behind it says which forest it is, and what is behind it
+-- the list of a forest's entries with more after it says which forest it is, and what is after it
 unique : (f g : Forest) (up : Option ℕ) (k : ℕ) (xs ys : List Entry) → IsBelow up k → Ends up k xs → Ends up k ys → in_preorder up k f ++ xs ≡ in_preorder up k g ++ ys → (f ≡ g) × (xs ≡ ys)
 unique empty empty up k xs ys b p q e = (refl, e)
 unique empty (root o u c g children behind) up k [] ys b p q e = cc

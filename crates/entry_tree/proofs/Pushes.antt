@@ -41,7 +41,7 @@ node_push t e i h =
     node_is (t ++ e ∷ []) i y.0 (get_push t e i h ∙ y.1) ∙ ap (λ m. Some m) (same_links (node t i y.0) _ _ _ _ first next) ∙
     sym (ap (option_map (with_new e (length t) i)) (node_is t i y.0 y.1))
 
--- the new entry has no child and nothing behind it
+-- the new entry has no child and nothing after it
 node_last : (t : List Entry) (e : Entry) → AreEarlier (t ++ e ∷ []) → node_of (t ++ e ∷ []) (length t) ≡ Some (record { offset = e.offset; unit = e.unit; code = e.code; tag = e.tag; first = None; next = None; up = e.up })
 node_last t e h =
     let none : first_child (t ++ e ∷ []) (length t) ≡ None =
@@ -80,7 +80,7 @@ first_stays t e i k h up p none =
     let b = none_found (has_parent (Some i)) 0 t k y.0 y.1 none in
     cc
 
--- where k is the last entry with a parent, each other one that has it has a sibling behind it
+-- where k is the last entry with a parent, each other one that has it has a sibling after it
 next_stays : (t : List Entry) (e : Entry) (i k : ℕ) (y : Entry) → IsLastChild t e.up (Some k) → slice_get t i ≡ Some y → (i ≡ k → ⊥) → has_parent y.up e ≡ true → position_from (has_parent y.up) (i + 1) (drop (i + 1) t) ≡ None → ⊥
 next_stays t e i k y last at other p none = by_case (cases_lt i k)
   where
@@ -97,7 +97,7 @@ next_stays t e i k y last at other p none = by_case (cases_lt i k)
         cc
     by_case (inr l) = last.2 i (omega (arith, other)) (within t i y at) (up_at t i y at ∙ sym same)
 
--- the last entry with a parent has no sibling behind it
+-- the last entry with a parent has no sibling after it
 none_behind : (t : List Entry) (u : Option ℕ) (k : ℕ) (y : Entry) → IsLastChild t u (Some k) → slice_get t k ≡ Some y → position_from (has_parent y.up) (k + 1) (drop (k + 1) t) ≡ None
 none_behind t u k y last at =
     find_none (has_parent y.up) (k + 1) (drop (k + 1) t) (λ j f g.
@@ -120,7 +120,7 @@ with_first k n = record n { first = Some k }
 abbrev Grows : List Node → Entry → List Node → Type 0
 Grows nodes e nodes' = (i : ℕ) (n : Node) → i < length nodes → slice_get nodes i ≡ Some n → IsNodeAt (map entry_of nodes) i n → slice_get nodes' i ≡ Some (with_new e (length nodes) i n)
 
--- the new entry comes behind a sibling
+-- the new entry comes after a sibling
 grows_next : (nodes : List Node) (x : Node) (k : ℕ) → IsLastChild (map entry_of nodes) x.up (Some k) → Grows nodes (entry_of x) (changed_at (nodes ++ x ∷ []) k (with_next (length nodes)))
 grows_next nodes x k last i n h there at = by_case (tells i k)
   where

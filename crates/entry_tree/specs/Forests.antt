@@ -3,7 +3,7 @@ use Rattle.std.specs.Prelude.{◌≡◌, ℕ, ◌+◌, ◌==◌, if◌then◌els
 use Rattle.entry_tree.specs.Entries.{Entry, new_entry, MayPush}
 use Rattle.entry_tree.specs.Invariant.{AreInPrefixOrder}
 
--- no tree; or a first root with the forest of its children, and the forest of the trees behind it
+-- no tree; or a first root with the forest of its children, and the forest of the trees after it
 pub data Forest : Type 0 where
   empty : Forest
   root : (offset unit code tag : ℕ) → (children behind : Forest) → Forest
@@ -24,12 +24,12 @@ in_preorder up k (root offset unit code tag children behind) =
 abbrev pub StandsFor : List Entry → Forest → Type 0
 StandsFor t forest = t ≡ in_preorder None 0 forest
 
--- the forest with one root more, behind all others
+-- the forest with one root more, after all others
 abbrev pub with_last_root : Entry → Forest → Forest
 with_last_root e empty = root e.offset e.unit e.code e.tag empty empty
 with_last_root e (root offset unit code tag children behind) = root offset unit code tag children (with_last_root e behind)
 
--- the forest, whose first root has the number k, with one child more of entry i, behind all its others
+-- the forest, whose first root has the number k, with one child more of entry i, after all its others
 abbrev pub with_child_from : ℕ → ℕ → Entry → Forest → Forest
 with_child_from k i e empty = empty
 with_child_from k i e (root offset unit code tag children behind) =

@@ -27,7 +27,7 @@ abbrev pub IsLastChild : List Entry → Option ℕ → Option ℕ → Type 0
 IsLastChild t u None = (i : ℕ) → i < length t → up_of t i ≢ u
 IsLastChild t u (Some k) = (k < length t) × (up_of t k ≡ u) × ((i : ℕ) → k < i → i < length t → up_of t i ≢ u)
 
--- a new child of u comes behind this sibling, and has this depth
+-- a new child of u comes after this sibling, and has this depth
 pub record IsInsertion (t : List Entry) (u : Option ℕ) (insertion : Insertion) : Type 0 where
   pub sibling : IsLastChild t u insertion.sibling
   pub depth : insertion.depth ≡ depth_of t u + 1

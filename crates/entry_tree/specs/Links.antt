@@ -9,7 +9,7 @@ use Rattle.entry_tree.specs.Entries.{Entry, has_parent}
 abbrev pub first_child : List Entry → ℕ → Option ℕ
 first_child t i = position_from (has_parent (Some i)) 0 t
 
--- the first entry behind entry i that has the same parent; behind a root the next root
+-- the first entry after entry i that has the same parent; after a root the next root
 abbrev pub next_sibling : List Entry → ℕ → Option ℕ
 next_sibling t i = option_and_then (λ e. position_from (has_parent e.up) (i + 1) (drop (i + 1) t)) (slice_get t i)
 
@@ -22,12 +22,12 @@ places_from test k (e ∷ t) = if test e then k ∷ places_from test (k + 1) t e
 abbrev pub children_of : List Entry → ℕ → List ℕ
 children_of t i = places_from (has_parent (Some i)) 0 t
 
--- entry k, which is e, and all entries behind it that have the same parent
+-- entry k, which is e, and all entries after it that have the same parent
 abbrev pub with_siblings : List Entry → ℕ → Option Entry → List ℕ
 with_siblings t k None = []
 with_siblings t k (Some e) = k ∷ places_from (has_parent e.up) (k + 1) (drop (k + 1) t)
 
--- an entry and all entries behind it that have the same parent, or none
+-- an entry and all entries after it that have the same parent, or none
 abbrev pub siblings_from : List Entry → Option ℕ → List ℕ
 siblings_from t None = []
 siblings_from t (Some k) = with_siblings t k (slice_get t k)

@@ -1,5 +1,5 @@
 //! Why an entry was not added.
-use std::alloc::AllocFailed;
+use std::alloc::{AllocError, AllocFailed};
 use thiserror::Error;
 
 /// Why an entry was not added to a tree.
@@ -23,6 +23,17 @@ impl<T: Drop> From<AllocFailed<T>> for TreeErr {
     ghost from_gives = { λ _ e. e ≡ TreeErr.Memory };
 
     fn from(_e: AllocFailed<T>) -> TreeErr {
+        TreeErr::Memory
+    }
+}
+
+impl From<AllocError> for TreeErr {
+    ghost use Rattle.entry_tree.specs.declared.fault.TreeErr.{TreeErr};
+    ghost use Rattle.std.specs.Prelude.{◌≡◌};
+
+    ghost from_gives = { λ _ e. e ≡ TreeErr.Memory };
+
+    fn from(_e: AllocError) -> TreeErr {
         TreeErr::Memory
     }
 }

@@ -1,4 +1,4 @@
-//! Laws of lists of entries, each the contract of a call that does nothing.
+//! Theorems on lists of entries, each the contract of a call that does nothing.
 ghost use Rattle.entry_tree.specs.Entries.{depth_of};
 ghost use Rattle.entry_tree.specs.Invariant.{IsByParent};
 ghost use Rattle.entry_tree.specs.Forests.{StandForAForest, StandForOneForest, PushLastChildren};
@@ -19,7 +19,7 @@ pub fn entries_stand_for_one_forest()
     ensures { StandForOneForest }
 {}
 
-/// An entry behind those of a forest is the last child of its parent, or the last root, and all
+/// An entry after those of a forest is the last child of its parent, or the last root, and all
 /// others keep their places.
 pub fn an_entry_more_is_a_last_child()
     ensures { PushLastChildren }

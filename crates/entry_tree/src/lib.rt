@@ -16,6 +16,3 @@ pub use laws::{
 };
 pub use node::Node;
 pub use tree::Tree;
-
-#[cfg(test)]
-mod tests;

@@ -1,5 +1,5 @@
 //! A tree of entries, with all nodes in one vector.
-ghost use Rattle.std.specs.Prelude.{◌≡◌, ◌≢◌, ◌<◌, ◌++◌, ◌∷◌, [], ◌==◌, length, position, IsTrue, IfOk, OnOk, OnErr, ◌↔◌};
+ghost use Rattle.std.specs.Prelude.{◌≡◌, ◌≢◌, ◌<◌, ◌++◌, ◌∷◌, [], ◌==◌, length, position, IsTrue, IfOk, IfErr, OnOk, OnErr, ◌↔◌};
 ghost use Rattle.std.specs.Option.{option_copied};
 ghost use Rattle.entry_tree.specs.Entries.{MayPush, IsAboveLast, depth_of, new_entry};
 ghost use Rattle.entry_tree.specs.Invariant.{AreEntries};
@@ -50,6 +50,16 @@ impl Tree {
         }
     }
 
+    /// Takes memory for so many entries more, so that as many calls that add an entry take none.
+    pub fn reserve(&mut self, additional: usize) -> Result<(), TreeErr>
+        // The entries stay, whatever the result.
+        ensures same { self.new ≡ self.old }
+        ensures memory { IfErr result (λ e. e ≡ TreeErr.Memory) }
+    {
+        self.nodes.reserve(additional)?;
+        Ok(())
+    }
+
     /// How many entries there are. Takes no memory.
     pub fn len(&self) -> usize
         ensures count { result ≡ length self.now }
@@ -81,7 +91,7 @@ impl Tree {
     /// Adds the last child of the entry `under`, or the last root, and gives its number. `offset`
     /// is in bytes from the start of `.debug_info`.
     ///
-    /// Refuses an entry of depth 257, where a root has depth 1, and else one behind 8,000,000
+    /// Refuses an entry of depth 257, where a root has depth 1, and else one after 8,000,000
     /// others. May take memory. All calls that add an entry take together no more steps up than
     /// there are entries.
     pub fn push(

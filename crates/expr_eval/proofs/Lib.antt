@@ -4,3 +4,4 @@ pub mod Lasts
 pub mod Fronts
 pub mod Parts
 pub mod Missing
+pub mod AddressParts

@@ -1,9 +1,9 @@
 -- The little-endian number of a part of memory is that of its bytes.
-use Rattle.std.proofs.Common.{◌≡◌, ◌∙◌, sym, ap, refl, ℕ, zero, suc, ◌+◌, ◌*◌, ◌<◌, ◌≤◌, ◌^◌, ◌%◌, List, [], ◌∷◌, length, get_or, Option, Some, None, arith, lit<}
+use Rattle.std.proofs.Common.{◌≡◌, ◌∙◌, sym, ap, refl, ℕ, suc, ◌+◌, ◌*◌, ◌<◌, ◌≤◌, ◌^◌, ◌%◌, List, [], ◌∷◌, length, get_or, Option, Some, None, arith, lit<}
 use Rattle.std.proofs.Math.Nat.{pow-suc, pow-le-pow_right}
 use Rattle.std.specs.Option.{option_map}
 use Rattle.snapshot_file.specs.Memory.{Run, items_at, bytes_of, join, number}
-use Rattle.expr_eval.specs.Results.{little_endian}
+use Rattle.expr_eval.specs.Results.{little_endian, wrapped}
 
 join_value : (b : ℕ) (o : Option (List ℕ)) → join (Some b) (option_map little_endian o) ≡ option_map little_endian (option_map (λ bytes. b ∷ bytes) o)
 join_value b (Some bytes) = refl
@@ -19,19 +19,14 @@ number_is [] = refl
 number_is (None ∷ items) = none_join (number items)
 number_is (Some b ∷ items) = ap (join (Some b)) (number_is items) ∙ join_value b (bytes_of items)
 
-front_length : (b n : ℕ) (o : Option (List ℕ)) (bytes : List ℕ) → ((rest : List ℕ) → o ≡ Some rest → length rest ≡ n) → option_map (λ rest. b ∷ rest) o ≡ Some bytes → length bytes ≡ suc n
-front_length b n (Some rest) bytes h e = let same : b ∷ rest ≡ bytes = cc in omega (arith, ap length same, h rest refl)
-front_length b n None bytes h e = cc
+-- the number that was read is that of the bytes
+pub read_is : (memory : List Run) (a n m : ℕ) (bytes : List ℕ) → Some bytes ≡ bytes_of (items_at memory a n) → m ≡ little_endian bytes % 2 ^ 64 → Some m ≡ option_map (wrapped 8) (number (items_at memory a n))
+read_is memory a n m bytes e h =
+    ap Some h ∙ ap (λ o. option_map (wrapped 8) (option_map little_endian o)) e ∙ ap (option_map (wrapped 8)) (sym (number_is (items_at memory a n)))
 
--- as many bytes as the part has places
-part_length : (items : List (Option ℕ)) (bytes : List ℕ) → bytes_of items ≡ Some bytes → length bytes ≡ length items
-part_length [] bytes e = let same : [] ≡ bytes = cc in omega (arith, ap length same)
-part_length (None ∷ items) bytes e = cc
-part_length (Some b ∷ items) bytes e = front_length b (length items) (bytes_of items) bytes (part_length items) e
-
-items_length : (memory : List Run) (n a : ℕ) → length (items_at memory a n) ≡ n
-items_length memory zero a = refl
-items_length memory (suc n) a = ap suc (items_length memory n (a + 1))
+pub read_misses : (memory : List Run) (a n : ℕ) → None ≡ bytes_of (items_at memory a n) → None ≡ option_map (wrapped 8) (number (items_at memory a n))
+read_misses memory a n e =
+    ap (λ o. option_map (wrapped 8) (option_map little_endian o)) e ∙ ap (option_map (wrapped 8)) (sym (number_is (items_at memory a n)))
 
 byte_above : (n k b : ℕ) → n < 256 ^ k → b < 256 → b + 256 * n < 256 ^ suc k
 byte_above n k b h l = rw (pow-suc 256 k) (omega arith)
@@ -47,13 +42,3 @@ whole_number bytes h few =
     let bound = value_bound bytes h in
     let within : little_endian bytes < 2 ^ 64 = omega arith in
     omega arith
-
--- the number that was read is that of the bytes
-pub read_is : (memory : List Run) (a n m : ℕ) (bytes : List ℕ) → Some bytes ≡ bytes_of (items_at memory a n) → n ≤ 8 → (length bytes ≤ 8 → m ≡ little_endian bytes) → Some m ≡ number (items_at memory a n)
-read_is memory a n m bytes e few h =
-    let size = part_length (items_at memory a n) bytes (sym e) in
-    let short : length bytes ≤ 8 = omega (arith, items_length memory n a) in
-    ap (λ x. Some x) (h short) ∙ ap (option_map little_endian) e ∙ sym (number_is (items_at memory a n))
-
-pub read_misses : (memory : List Run) (a n : ℕ) → None ≡ bytes_of (items_at memory a n) → None ≡ number (items_at memory a n)
-read_misses memory a n e = ap (option_map little_endian) e ∙ sym (number_is (items_at memory a n))

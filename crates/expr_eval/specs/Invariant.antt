@@ -76,15 +76,25 @@ value_is_last [] = true
 value_is_last (o ∷ []) = true
 value_is_last (o ∷ next ∷ ops) = not (is_stack_value o) && value_is_last (next ∷ ops)
 
--- from this height on no operation lacks an operand or passes 64 numbers, and a value is there at the end
-abbrev pub fits : ℕ → List Op → Bool
-fits height [] = nat_lt 0 height
-fits height (o ∷ ops) = nat_le (needs o) height && (nat_le (height - needs o + gives o) 64 && fits (height - needs o + gives o) ops)
+-- the height of the stack after one operation
+abbrev pub height_by : ℕ → Op → ℕ
+height_by height o = height - needs o + gives o
 
--- 1 to 64 operations, each sound, that fit an empty stack
+-- From this height on no operation lacks an operand or passes 64 numbers. It holds of each beginning of such a list.
+abbrev pub fits : ℕ → List Op → Bool
+fits height [] = true
+fits height (o ∷ ops) = nat_le (needs o) height && (nat_le (height_by height o) 64 && fits (height_by height o) ops)
+
+-- the height after the operations
+abbrev pub height_after : ℕ → List Op → ℕ
+height_after height [] = height
+height_after height (o ∷ ops) = height_after (height_by height o) ops
+
+-- 1 to 64 operations, each sound, that fit an empty stack and leave a number
 pub record AreOps (ops : List Op) : Type 0 where
   pub some : 0 < length ops
   pub few : length ops ≤ 64
   pub sound : each_sound ops ≡ true
   pub last : value_is_last ops ≡ true
   pub fit : fits 0 ops ≡ true
+  pub value : 0 < height_after 0 ops

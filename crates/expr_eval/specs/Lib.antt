@@ -1,3 +1,4 @@
 pub mod Results
 pub mod Invariant
 pub mod Operands
+pub mod Addresses

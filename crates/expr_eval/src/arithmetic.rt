@@ -4,21 +4,21 @@ ghost use Rattle.expr_eval.specs.Results.{shl, shr, shra};
 
 /// The number shifted to the left by so many bits.
 pub(crate) fn shl(number: u64, by: u64) -> u64
-    ensures { result ≡ shl number by }
+    ensures { result ≡ shl 8 number by }
 {
     if by < 64 { number << by } else { 0 }
 }
 
 /// The number shifted to the right by so many bits.
 pub(crate) fn shr(number: u64, by: u64) -> u64
-    ensures { result ≡ shr number by }
+    ensures { result ≡ shr 8 number by }
 {
     if by < 64 { number >> by } else { 0 }
 }
 
 /// The number shifted to the right by so many bits, with copies of its sign bit coming in.
 pub(crate) fn shra(number: u64, by: u64) -> u64
-    ensures { result ≡ shra number by }
+    ensures { result ≡ shra 8 number by }
 {
     if number < 1 << 63 {
         shr(number, by)

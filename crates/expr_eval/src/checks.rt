@@ -3,7 +3,7 @@ ghost use Rattle.std.specs.Prelude.{◌≡◌, ◌↔◌, true};
 ghost use Rattle.expr_eval.specs.Results.{is_stack_value};
 ghost use Rattle.expr_eval.specs.Invariant.{is_sound, each_sound, value_is_last, AreOps};
 
-use crate::heights::fits;
+use crate::heights::leave_a_number;
 use crate::operation::Op;
 
 /// Whether the operation says that the top is the value.
@@ -53,5 +53,5 @@ pub(crate) fn are_ops(ops: &[Op]) -> bool
     ensures { result ≡ true ↔ AreOps ops.now }
 {
     let few = !ops.is_empty() && ops.len() <= 64;
-    few && each_sound(ops) && value_is_last(ops) && fits(ops)
+    few && each_sound(ops) && value_is_last(ops) && leave_a_number(ops)
 }

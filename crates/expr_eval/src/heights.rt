@@ -1,6 +1,6 @@
 //! How many numbers operations need and give, and whether they fit a stack of 64.
-ghost use Rattle.std.specs.Prelude.{◌≡◌};
-ghost use Rattle.expr_eval.specs.Invariant.{needs, gives, fits};
+ghost use Rattle.std.specs.Prelude.{◌≡◌, ◌&&◌, nat_lt, true, false, MatchOption};
+ghost use Rattle.expr_eval.specs.Invariant.{needs, gives, fits, height_after};
 
 use crate::operation::Op;
 
@@ -34,19 +34,26 @@ fn gives_of(op: Op) -> u32
     }
 }
 
-/// Whether no operation lacks an operand or passes 64 numbers, and a value is there at the end.
-pub(crate) fn fits(ops: &[Op]) -> bool
-    ensures { result ≡ fits 0 ops.now }
+/// The height after the operations; None where one of them lacks an operand or passes 64 numbers.
+fn height_of(ops: &[Op]) -> Option<u32>
+    ensures { MatchOption result (fits 0 ops.now ≡ false) (λ h. (fits 0 ops.now ≡ true) × (h ≡ height_after 0 ops.now)) }
 {
     let mut height: u32 = 0;
     for op in ops {
         if needs_of(*op) > height {
-            return false;
+            return None;
         }
         height = height - needs_of(*op) + gives_of(*op);
         if height > 64 {
-            return false;
+            return None;
         }
     }
-    height > 0
+    Some(height)
+}
+
+/// Whether no operation lacks an operand or passes 64 numbers, and a number is there at the end.
+pub(crate) fn leave_a_number(ops: &[Op]) -> bool
+    ensures { result ≡ fits 0 ops.now && nat_lt 0 (height_after 0 ops.now) }
+{
+    height_of(ops).is_some_and(|height| height > 0)
 }

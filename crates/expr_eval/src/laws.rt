@@ -1,10 +1,11 @@
-//! Laws of operations, each the contract of a call that does nothing.
-ghost use Rattle.expr_eval.specs.Results.{IsByLast, meaning};
+//! Theorems on operations, each the contract of a call that does nothing.
+ghost use Rattle.std.specs.Prelude.{ℕ};
+ghost use Rattle.expr_eval.specs.Results.{LastDetermines};
 ghost use Rattle.expr_eval.specs.Operands.{FindOperands, LackOnlyMissing};
 
-/// The meaning of a list of operations is the meaning of all but its last, then of the last.
+/// The meaning of a list of operations is the meaning of all but its last, then of the last, and this determines it.
 pub fn last_is_last()
-    ensures { IsByLast meaning }
+    ensures { (ptr : ℕ) → LastDetermines ptr }
 {}
 
 /// No operation of an expression lacks an operand, or finds more than 64 numbers.

@@ -1,6 +1,7 @@
 //! What the operations of a location expression give in a snapshot.
 #![tactic(auto)]
 
+mod addresses;
 mod arithmetic;
 mod checks;
 mod expression;
@@ -11,10 +12,8 @@ mod machine;
 mod operation;
 mod stack;
 
+pub use addresses::Addrs;
 pub use expression::Ops;
 pub use laws::{last_is_last, only_what_is_missing_has_no_result, operands_are_there};
 pub use machine::eval;
 pub use operation::{Op, Spot};
-
-#[cfg(test)]
-mod tests;

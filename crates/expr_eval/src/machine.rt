@@ -1,22 +1,21 @@
 //! What operations give in a snapshot.
-ghost use Rattle.std.specs.Prelude.{◌≡◌, ◌+◌, ◌-◌, ◌≤◌, true, length};
+ghost use Rattle.std.specs.Prelude.{◌≡◌, ◌+◌, ◌-◌, ◌≤◌, length};
 ghost use Rattle.expr_eval.specs.Results.{outcome, step, ends_in_value, result_of};
-ghost use Rattle.expr_eval.specs.Invariant.{needs, gives, is_sound};
+ghost use Rattle.expr_eval.specs.Invariant.{needs, gives};
 
 use crate::arithmetic::{shl, shr, shra};
 use crate::checks::is_stack_value;
 use crate::expression::Ops;
-use crate::lookups::{read_number, register_plus};
+use crate::lookups::{cfa_of, read_number, register_plus};
 use crate::operation::{Op, Spot};
 use crate::stack::Stack;
 use snapshot_file::Snapshot;
 
 /// One operation. False where a number that it names is missing.
 fn perform(op: Op, snap: &Snapshot, stack: &mut Stack) -> bool
-    requires sound { is_sound op ≡ true }
     requires enough { needs op ≤ length stack.old }
     requires room { length stack.old - needs op + gives op ≤ 64 }
-    ensures { outcome result stack.new ≡ step snap.now op stack.old }
+    ensures { outcome result stack.new ≡ step 8 snap.now op stack.old }
 {
     let top = stack.nth(0);
     let second = stack.nth(1);
@@ -54,7 +53,7 @@ fn perform(op: Op, snap: &Snapshot, stack: &mut Stack) -> bool
         Op::Shra => stack.put(2, Some(shra(second, top))),
         Op::Xor => stack.put(2, Some(second ^ top)),
         Op::RegPlus(reg, number) => stack.put(0, register_plus(&snap.regs, reg, number)),
-        Op::Cfa => stack.put(0, snap.cfa),
+        Op::Cfa => stack.put(0, cfa_of(snap)),
         Op::Entry => false,
         Op::StackValue => true,
     }
@@ -74,7 +73,7 @@ fn ends_in_value(ops: &[Op]) -> bool
 /// What the operations give in the snapshot; None exactly where a register, the `cfa` or a byte that they name is missing,
 /// or they name a value from the function's entry. Takes no memory.
 pub fn eval(ops: &Ops, snap: &Snapshot) -> Option<Spot>
-    ensures { result ≡ result_of ops.now snap.now }
+    ensures { result ≡ result_of 8 ops.now snap.now }
 {
     let list = ops.as_slice();
     let mut stack = Stack::new();

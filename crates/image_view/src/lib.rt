@@ -9,6 +9,3 @@ mod whole;
 
 pub use chunk::{Chunk, Src};
 pub use image::Image;
-
-#[cfg(test)]
-mod tests;

@@ -1,5 +1,5 @@
 //! The laws of layout files.
-ghost use Rattle.layout_file.specs.Claims.{HaveReading, SpellOne, HaveNoFault, HaveOneFault};
+ghost use Rattle.layout_reader.specs.Claims.{HaveReading, SpellOne, HaveNoFault, HaveOneFault};
 
 /// A file spells at most one set.
 pub fn a_file_spells_one_set()

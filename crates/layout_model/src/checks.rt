@@ -1,27 +1,31 @@
 //! The laws, one after the other.
+ghost use Rattle.std.specs.Prelude.{◌≡◌};
 ghost use Rattle.std.specs.List.{All};
-ghost use Rattle.layout_model.specs.FirstBreach.{Checked};
-ghost use Rattle.layout_model.specs.Found.{InOrder};
-ghost use Rattle.layout_model.specs.Laws.{sound_laws, further_laws, laws};
-ghost use Rattle.layout_model.specs.Law5.{HasFitNumbers};
-ghost use Rattle.layout_model.specs.Law10.{IsSet};
-ghost use Rattle.layout_model.specs.Sizes.{AreSmall};
+ghost use Rattle.layout_set.specs.FirstBreach.{Checked};
+ghost use Rattle.layout_set.specs.Found.{InOrder};
+ghost use Rattle.layout_set.specs.Laws.{sound_laws, further_laws, laws};
+ghost use Rattle.layout_set.specs.Law5.{HasFitNumbers};
+ghost use Rattle.layout_set.specs.IsSet.{IsSet};
+ghost use Rattle.layout_set.specs.Sizes.{AreSmall};
 
-use crate::breach::CheckErr;
-use crate::counts::law_14;
-use crate::extents::{law_3, law_4};
-use crate::locations::law_13;
-use crate::names::law_10;
-use crate::nesting::law_2;
-use crate::numbers::law_8;
-use crate::overlap::{law_7, law_9};
-use crate::references::{law_6, law_11};
-use crate::scopes::law_12;
-use crate::set::Set;
-use crate::tags::law_5;
-use crate::within::law_1;
+use layout_func_laws::law_12::law_12;
+use layout_func_laws::law_13::law_13;
+use layout_func_laws::law_14::law_14;
+use layout_name_laws::law_10::law_10;
+use layout_set::{CheckErr, Set};
+use layout_type_laws::law_1::law_1;
+use layout_type_laws::law_2::law_2;
+use layout_type_laws::law_3::law_3;
+use layout_type_laws::law_4::law_4;
+use layout_type_laws::law_5::law_5;
+use layout_type_laws::law_6::law_6;
+use layout_type_laws::law_7::law_7;
+use layout_type_laws::law_8::law_8;
+use layout_type_laws::law_9::law_9;
+use layout_type_laws::law_11::law_11;
 use std::alloc::Global;
 
+/// Checks laws 1 to 6, each where those before it hold.
 fn check_sound_laws(alloc: Global, set: &Set) -> Result<(), CheckErr>
     ensures { InOrder set.now (sound_laws set.now) result }
 {
@@ -41,10 +45,12 @@ pub fn check_sound(alloc: Global, set: &Set) -> Result<(), CheckErr>
     check_sound_laws(alloc, set)
 }
 
+/// Checks laws 7 to 14, each where those before it hold.
 fn check_further_laws(alloc: Global, set: &Set) -> Result<(), CheckErr>
     requires names { IsSet set.now }
-    requires small { AreSmall set.now.types }
-    requires fit { All HasFitNumbers set.now.types }
+    requires pointers { set.now.target.ptr ≡ 8 }
+    requires small { AreSmall set.now.target.ptr set.now.types }
+    requires fit { All (HasFitNumbers set.now.target.ptr) set.now.types }
     ensures { InOrder set.now (further_laws set.now) result }
 {
     law_7(alloc, set)?;
@@ -57,6 +63,7 @@ fn check_further_laws(alloc: Global, set: &Set) -> Result<(), CheckErr>
     law_14(alloc, set)
 }
 
+/// Checks all laws, each where those before it hold.
 fn check_laws(alloc: Global, set: &Set) -> Result<(), CheckErr>
     requires { IsSet set.now }
     ensures { InOrder set.now (laws set.now) result }

@@ -2,5 +2,5 @@ pub mod Cutting
 pub mod LastDigit
 pub mod DigitWords
 pub mod HexWords
+pub mod HexNumbers
 pub mod Text
-pub mod Loops

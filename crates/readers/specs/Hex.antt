@@ -1,12 +1,8 @@
 -- Hexadecimal numbers as words.
-use Rattle.std.specs.Prelude.{◌≡◌, ◌≢◌, ℕ, ◌<◌, ◌^◌, nat_lt, nat_le, ◌&&◌, ◌||◌, ◌==◌, not, Bool, true, length, take, slice_index, [], ◌∷◌, List, ◌++◌, drop, Option, Some, None, if◌then◌else◌, false, codes}
-use Rattle.std.specs.Fmt.{digits}
+use Rattle.std.specs.Prelude.{◌≡◌, ◌≢◌, ◌⊎◌, ℕ, ◌<◌, ◌≤◌, ◌^◌, All, nat_lt, nat_le, ◌&&◌, ◌||◌, ◌==◌, not, Bool, true, length, take, slice_index, [], ◌∷◌, List, ◌++◌, drop, Option, Some, None, if◌then◌else◌, false, codes}
+pub use Rattle.rv_io.specs.Numbers.{hex_text}
 use Rattle.std.specs.Str.{bytes_eq}
 use Rattle.std.specs.Str.Parse.{digits_value}
-
--- `0x` and the digits in lower case, without leading zeros
-abbrev pub hex_text : ℕ → List ℕ
-hex_text n = codes "0x" ++ digits 16 false n
 
 -- the number below 2 ^ 64 that the word spells
 abbrev pub SpellsHex : List ℕ → Option ℕ → Type 0
@@ -30,6 +26,7 @@ wide_hex_of word =
     let n = digits_value 16 (drop 2 word) in
     if nat_lt n (2 ^ 128) && bytes_eq word (hex_text n) then Some n else None
 
+-- a test of a digit, and of all digits
 abbrev pub is_lower_digit : ℕ → Bool
 is_lower_digit c = (nat_le 48 c && nat_le c 57) || (nat_le 97 c && nat_le c 102)
 
@@ -37,7 +34,19 @@ abbrev pub are_lower_digits : List ℕ → Bool
 are_lower_digits [] = true
 are_lower_digits (c ∷ cs) = is_lower_digit c && are_lower_digits cs
 
--- the word spells a number of any size: `0x` and lower-case digits, of which the first is `0` only alone
+-- a hexadecimal digit in lower case
+abbrev pub IsLowerDigit : ℕ → Type 0
+IsLowerDigit c = ((48 ≤ c) × (c ≤ 57)) ⊎ ((97 ≤ c) × (c ≤ 102))
+
+-- the word spells a number of any size: `0x` and one or more digits in lower case, of which the first is `0` only where it stands alone
+pub record IsHexNumber (word : List ℕ) : Type 0 where
+  pub digits : List ℕ
+  pub text : word ≡ codes "0x" ++ digits
+  pub some : 0 < length digits
+  pub first : (length digits ≡ 1) ⊎ (slice_index digits 0 ≢ 48)
+  pub each : All IsLowerDigit digits
+
+-- the same, as a test
 abbrev pub is_hex_word : List ℕ → Bool
 is_hex_word word =
     let digits = drop 2 word in

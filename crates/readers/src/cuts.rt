@@ -26,7 +26,7 @@ pub fn cut_line(bytes: &[u8]) -> Option<(&[u8], &[u8])>
     }
 }
 
-/// The first word, and what follows the space behind it, if there is one.
+/// The first word, and what follows the space after it, if there is one.
 pub fn cut_word(line: &[u8]) -> (&[u8], Option<&[u8]>)
     ensures cut { MatchOption result.1 (Lacks 32 line.now) (λ rest. CutAt 32 line.now result.0.now rest.now) }
     ensures words { MatchOption result.1 (words line.now ≡ result.0.now ∷ []) (λ rest. words line.now ≡ result.0.now ∷ words rest.now) }

@@ -1,6 +1,6 @@
 //! Hexadecimal numbers, each in its one spelling.
-ghost use Rattle.std.specs.Prelude.{◌≡◌};
-ghost use Rattle.readers.specs.Hex.{hex_of, SpellsHex, wide_hex_of, SpellsWideHex, is_lower_digit, are_lower_digits, is_hex_word, narrow};
+ghost use Rattle.std.specs.Prelude.{◌≡◌, ◌↔◌, IsTrue};
+ghost use Rattle.readers.specs.Hex.{hex_of, SpellsHex, wide_hex_of, SpellsWideHex, is_lower_digit, are_lower_digits, is_hex_word, IsHexNumber, narrow};
 
 use crate::digits::are_digits;
 
@@ -51,13 +51,15 @@ pub fn read_wide_hex(word: &[u8]) -> Option<u128>
     parse_hex(word)
 }
 
+/// Whether the byte is a hexadecimal digit in lower case.
 fn is_lower_digit(c: u8) -> bool
     ensures { result ≡ is_lower_digit c }
 {
     matches!(c, b'0'..=b'9' | b'a'..=b'f')
 }
 
-#[tactic(auto, using(crate::proofs::Loops::drop_step))]
+/// Whether all bytes are hexadecimal digits in lower case.
+#[tactic(auto, using(rv_io::proofs::Steps::drop_step))]
 fn are_lower_digits(digits: &[u8]) -> bool
     ensures { result ≡ are_lower_digits digits.now }
 {
@@ -69,12 +71,20 @@ fn are_lower_digits(digits: &[u8]) -> bool
     true
 }
 
-/// Whether the word spells a number of any size, as `read_hex` wants it. Takes no memory.
-pub fn is_hex_word(word: &[u8]) -> bool
+/// Whether the word is `0x` and one or more digits in lower case, of which the first is `0` only where it stands alone.
+fn has_hex_digits(word: &[u8]) -> bool
     ensures { result ≡ is_hex_word word.now }
 {
     let Some(digits) = word.strip_prefix(b"0x".as_slice()) else {
         return false;
     };
     !digits.is_empty() && (digits.len() == 1 || digits[0] != b'0') && are_lower_digits(digits)
+}
+
+/// Whether the word spells a number of any size, as `read_hex` wants it. Takes no memory.
+pub fn is_hex_word(word: &[u8]) -> bool
+    ensures spelled { IsTrue result ↔ IsHexNumber word.now }
+    ensures exact { result ≡ is_hex_word word.now }
+{
+    has_hex_digits(word)
 }

@@ -11,6 +11,3 @@ pub use cuts::{cut_line, cut_word, one_word, three_words, two_words};
 pub use decimal::read_decimal;
 pub use hexadecimal::{is_hex_word, read_hex, read_wide_hex};
 pub use utf8::is_text;
-
-#[cfg(test)]
-mod tests;

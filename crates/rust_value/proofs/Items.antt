@@ -1,11 +1,12 @@
 -- Items that are put one after the other.
-use Rattle.std.proofs.Common.{◌≡◌, ◌∙◌, sym, ap, subst, refl, ℕ, zero, suc, ◌<◌, ◌≤◌, ◌+◌, Bool, true, false, cond, eqb, List, [], ◌∷◌, ◌++◌, map, length, take, drop, get_or, append_assoc, arith, if◌then◌else◌, ◌==◌, ◌&&◌}
+use Rattle.std.proofs.Common.{◌≡◌, ◌∙◌, sym, ap, subst, refl, ℕ, zero, suc, ◌<◌, ◌≤◌, ◌+◌, Bool, true, false, cond, eqb, List, [], ◌∷◌}
+use Rattle.std.proofs.Common.{◌++◌, map, length, take, drop, get_or, append_assoc, arith, if◌then◌else◌, ◌==◌, ◌&&◌}
 use Rattle.std.proofs.lemmas.Grind.{common_steps, flat_map-append}
 use Rattle.std.proofs.lemmas.List.{take-append-drop, append-nil, map_more, length-append}
 use Rattle.std.proofs.Math.Dec.{eqb-suc-zero}
 use Rattle.std.proofs.Math.Seq.{take-append_seam}
 use Rattle.std.specs.List.{flat_map}
-use Rattle.type_names.specs.RustText.{joined}
+use Rattle.names.specs.Joined.{joined}
 use Rattle.rust_value.specs.Utf8.{all_true}
 
 -- what keeps a longer front keeps a shorter one
@@ -42,11 +43,15 @@ joined-push sep (u ∷ us) t =
     ∙ ap (λ b. (u ++ flat_map (λ y. sep ++ y) us) ++ (cond b [] sep ++ t)) (sym (eqb-suc-zero (length us)))
 
 -- the next item is put
-pub put_next : {A : Type 0} (f : A → List ℕ) (sep : List ℕ) (xs : List A) (i : ℕ) (x : A) (start before mid after : List ℕ) → i < length xs → x ≡ get_or xs i x → before ≡ start ++ joined sep (map f (take i xs)) → mid ≡ before ++ comma i sep → after ≡ mid ++ f x → after ≡ start ++ joined sep (map f (take (i + 1) xs))
+pub put_next : {A : Type 0} (f : A → List ℕ) (sep : List ℕ) (xs : List A) (i : ℕ) (x : A) (start before mid after : List ℕ) → i < length xs →
+    x ≡ get_or xs i x → before ≡ start ++ joined sep (map f (take i xs)) → mid ≡ before ++ comma i sep → after ≡ mid ++ f x →
+    after ≡ start ++ joined sep (map f (take (i + 1) xs))
 put_next f sep xs i x start before mid after l e b m a =
     let n : length (map f (take i xs)) ≡ i = grind (arith, common_steps) in
     let done = joined sep (map f (take i xs)) in
     let last = comma i sep in
     let push : joined sep (map f (take (i + 1) xs)) ≡ done ++ (last ++ f x) =
-    ap (joined sep) (map_more f xs i x l ∙ ap (λ y. map f (take i xs) ++ f y ∷ []) (sym e)) ∙ joined-push sep (map f (take i xs)) (f x) ∙ ap (λ k. done ++ (comma k sep ++ f x)) n in
-    a ∙ ap (λ t. t ++ f x) (m ∙ ap (λ t. t ++ last) b) ∙ append_assoc (start ++ done) last (f x) ∙ append_assoc start done (last ++ f x) ∙ ap (λ t. start ++ t) (sym push)
+    ap (joined sep) (map_more f xs i x l ∙ ap (λ y. map f (take i xs) ++ f y ∷ []) (sym e)) ∙ joined-push sep (map f (take i xs)) (f x) ∙
+    ap (λ k. done ++ (comma k sep ++ f x)) n in
+    a ∙ ap (λ t. t ++ f x) (m ∙ ap (λ t. t ++ last) b) ∙ append_assoc (start ++ done) last (f x) ∙ append_assoc start done (last ++ f x) ∙
+    ap (λ t. start ++ t) (sym push)

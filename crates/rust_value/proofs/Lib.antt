@@ -1,3 +1,4 @@
 pub mod Items
+pub mod Named
 pub mod Parts
 pub mod TextLevels

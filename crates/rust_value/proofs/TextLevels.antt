@@ -2,12 +2,14 @@
 use Rattle.std.proofs.Common.{◌≡◌, ◌∙◌, sym, ap, refl, ℕ, Bool, true, List, map, Option, Some, None}
 use Rattle.std.specs.Option.{option_map}
 use Rattle.std.specs.Prelude.{ℤ}
-use Rattle.type_names.specs.declared.name.PtrKind.{PtrKind}
+use Rattle.names.specs.declared.name.PtrKind.{PtrKind}
 use Rattle.rust_value.specs.declared.value.Part.{Part}
 use Rattle.rust_value.specs.declared.value.Val.{Val, fold-roll-Val}
 use Rattle.rust_value.specs.declared.value.Val.TheOpen.{Val-F, Part-F}
 use Rattle.rust_value.specs.declared.value.Val.TheVariants as vals
-use Rattle.rust_value.specs.declared.value.Val.TheVariants.{rolls-Fields, rolls-Variant, rolls-Seq, rolls-Pointer, rolls-Slice, rolls-Str, rolls-Dyn, rolls-Function, rolls-Bytes, rolls-Unit, rolls-Bool, rolls-Char, rolls-Unsigned, rolls-Signed, rolls-Float32, rolls-Float64}
+use Rattle.rust_value.specs.declared.value.Val.TheVariants.{rolls-Fields, rolls-Variant, rolls-Seq, rolls-Pointer, rolls-Slice, rolls-Str}
+use Rattle.rust_value.specs.declared.value.Val.TheVariants.{rolls-Dyn, rolls-Function, rolls-Bytes, rolls-Unit, rolls-Bool, rolls-Char}
+use Rattle.rust_value.specs.declared.value.Val.TheVariants.{rolls-Unsigned, rolls-Signed, rolls-Float32, rolls-Float64}
 use Rattle.rust_value.specs.Utf8.{has_texts, part_has_texts, all_true, true_of, is_text, val_step, part_step}
 
 pub texts-Fields : (parts : List Part) → has_texts (vals.Fields parts) ≡ all_true (map part_has_texts parts)
@@ -21,11 +23,13 @@ texts-Seq count shown = ap has_texts (sym (rolls-Seq count shown)) ∙ fold-roll
 
 pub texts-Pointer : (kind : PtrKind) (at : ℕ) (content : Option Val) → has_texts (vals.Pointer kind at content) ≡ true_of (option_map has_texts content)
 texts-Pointer kind at None = ap has_texts (sym (rolls-Pointer kind at None)) ∙ fold-roll-Val Bool Bool val_step part_step (Val-F.Pointer kind at None)
-texts-Pointer kind at (Some x) = ap has_texts (sym (rolls-Pointer kind at (Some x))) ∙ fold-roll-Val Bool Bool val_step part_step (Val-F.Pointer kind at (Some x))
+texts-Pointer kind at (Some x) =
+    ap has_texts (sym (rolls-Pointer kind at (Some x))) ∙ fold-roll-Val Bool Bool val_step part_step (Val-F.Pointer kind at (Some x))
 
 pub texts-Slice : (kind : PtrKind) (at len : ℕ) (content : Option Val) → has_texts (vals.Slice kind at len content) ≡ true_of (option_map has_texts content)
 texts-Slice kind at len None = ap has_texts (sym (rolls-Slice kind at len None)) ∙ fold-roll-Val Bool Bool val_step part_step (Val-F.Slice kind at len None)
-texts-Slice kind at len (Some x) = ap has_texts (sym (rolls-Slice kind at len (Some x))) ∙ fold-roll-Val Bool Bool val_step part_step (Val-F.Slice kind at len (Some x))
+texts-Slice kind at len (Some x) =
+    ap has_texts (sym (rolls-Slice kind at len (Some x))) ∙ fold-roll-Val Bool Bool val_step part_step (Val-F.Slice kind at len (Some x))
 
 pub texts-Str : (kind : PtrKind) (at len : ℕ) (content : Option (List ℕ)) → has_texts (vals.Str kind at len content) ≡ is_text content
 texts-Str kind at len content = ap has_texts (sym (rolls-Str kind at len content)) ∙ fold-roll-Val Bool Bool val_step part_step (Val-F.Str kind at len content)

@@ -1,3 +1,4 @@
+pub mod Named
 pub mod Nodes
 pub mod Texts
 pub mod Utf8

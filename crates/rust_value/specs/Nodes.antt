@@ -14,6 +14,7 @@ abbrev pub content_nodes : Option ℕ → ℕ
 content_nodes None = 0
 content_nodes (Some n) = n
 
+-- a field counts as its value
 abbrev pub part_step : Part-F ℕ ℕ → ℕ
 part_step part = part.val
 
@@ -28,8 +29,10 @@ val_step (Val-F.Str kind at len text) = 1 + shown_nodes text
 val_step (Val-F.Bytes bytes) = 1 + length bytes
 val_step _ = 1
 
+-- how many nodes a value has
 abbrev pub nodes_of : Val → ℕ
 nodes_of = fold-Val ℕ ℕ val_step part_step
 
+-- how many nodes the value of a field has
 abbrev pub part_nodes : Part → ℕ
 part_nodes = fold-Part ℕ ℕ val_step part_step

@@ -1,11 +1,13 @@
 -- The text of values.
-use Rattle.std.specs.Prelude.{ℕ, ◌+◌, ◌-◌, ◌++◌, ◌∷◌, [], List, map, length, codes, if◌then◌else◌, ◌==◌, nat_lt, ◌||◌, ◌&&◌, Bool, true, false, Option, Some, None}
+use Rattle.std.specs.Prelude.{ℕ, ◌+◌, ◌-◌, ◌++◌, ◌∷◌, [], List, map, length, codes, if◌then◌else◌, ◌==◌, nat_lt, ◌||◌, ◌&&◌, Bool, true}
+use Rattle.std.specs.Prelude.{false, Option, Some, None}
 use Rattle.std.specs.Int.{to_be_bytes, w32, w64}
 use Rattle.std.specs.Fmt.{decimal, signed_decimal, digits}
 use Rattle.std.specs.List.{flat_map}
 use Rattle.std.specs.Str.{chars, bytes_eq}
 use Rattle.hex.specs.Hex.{encode_lower}
-use Rattle.type_names.specs.RustText.{joined, kind_text}
+use Rattle.names.specs.Joined.{joined}
+use Rattle.names.specs.Pointers.{kind_text}
 use Rattle.rust_value.specs.declared.value.Val.{Val, fold-Val}
 use Rattle.rust_value.specs.declared.value.Part.{Part, fold-Part}
 use Rattle.rust_value.specs.declared.value.Val.TheOpen.{Val-F, Part-F}
@@ -46,6 +48,7 @@ abbrev pub are_numbered : ℕ → List Shown → Bool
 are_numbered i [] = true
 are_numbered i (part ∷ parts) = bytes_eq part.0 (number_name i) && are_numbered (i + 1) parts
 
+-- a part as it stands in braces
 abbrev pub named_text : Shown → List ℕ
 named_text part = part.0 ++ codes ": " ++ part.1
 
@@ -55,10 +58,12 @@ parts_text parts =
     if are_numbered 0 parts then codes "(" ++ joined (codes ", ") (map (λ part. part.1) parts) ++ codes ")"
     else codes "{" ++ joined (codes ", ") (map named_text parts) ++ codes "}"
 
+-- the fields of a struct; `{}` where there are none
 abbrev pub fields_text : List Shown → List ℕ
 fields_text [] = codes "{}"
 fields_text (part ∷ parts) = parts_text (part ∷ parts)
 
+-- the fields of a variant; nothing where there are none
 abbrev pub payload_text : List Shown → List ℕ
 payload_text [] = []
 payload_text (part ∷ parts) = parts_text (part ∷ parts)
@@ -67,6 +72,7 @@ payload_text (part ∷ parts) = parts_text (part ∷ parts)
 abbrev pub more_items : ℕ → List (List ℕ)
 more_items n = if n == 0 then [] else (codes ".. " ++ decimal n ++ codes " more") ∷ []
 
+-- a sequence of this length, of which these elements are shown
 abbrev pub seq_text : ℕ → List (List ℕ) → List ℕ
 seq_text len shown = codes "[" ++ joined (codes ", ") (shown ++ more_items (len - length shown)) ++ codes "]"
 
@@ -75,6 +81,7 @@ abbrev pub content_text : Option (List ℕ) → List ℕ
 content_text None = []
 content_text (Some text) = codes " -> " ++ text
 
+-- the arrow and the text that a pointer leads to
 abbrev pub quoted_content : Option (List ℕ) → List ℕ
 quoted_content None = []
 quoted_content (Some bytes) = codes " -> " ++ quoted bytes
@@ -83,6 +90,7 @@ quoted_content (Some bytes) = codes " -> " ++ quoted bytes
 abbrev pub fat_text : List ℕ → List ℕ → ℕ → List ℕ → List ℕ
 fat_text kind shape at other = kind ++ shape ++ codes "[" ++ address_text at ++ codes "; " ++ other ++ codes "]"
 
+-- a truth value
 abbrev pub bool_text : Bool → List ℕ
 bool_text b = if b then codes "true" else codes "false"
 
@@ -105,6 +113,7 @@ val_step (Val-F.Dyn kind at vtable) = fat_text (kind_text kind) (codes "dyn") at
 val_step (Val-F.Function at) = codes "fn " ++ address_text at
 val_step (Val-F.Bytes bytes) = codes "bytes " ++ encode_lower bytes
 
+-- a part with the text of its value
 abbrev pub part_step : Part-F (List ℕ) Shown → Shown
 part_step part = (part.name, part.val)
 

@@ -7,7 +7,7 @@ use crate::value::{Part, Val};
 use rv_io::{Boxed, Text};
 
 /// How many nodes the value has: one for each `Val` in it, and one more for each byte of a `Str`'s text and of `Bytes`.
-/// Stands still at 2^64 - 1. Takes no memory.
+/// Saturates at 2^64 - 1. Takes no memory.
 #[cycle(counting)]
 pub fn nodes(val: &Val) -> u64
     ensures { result ≡ min (nodes_of val.now) (2 ^ 64 - 1) }

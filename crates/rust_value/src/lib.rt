@@ -2,14 +2,13 @@
 #![tactic(auto)]
 
 mod counting;
+mod naming;
 mod pointers;
 mod printing;
 mod scalars;
 mod value;
 
 pub use counting::nodes;
+pub use naming::names_are_words;
 pub use printing::text;
 pub use value::{Part, Val};
-
-#[cfg(test)]
-mod tests;

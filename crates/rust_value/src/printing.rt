@@ -2,15 +2,13 @@
 ghost use Rattle.std.specs.Prelude.{◌≡◌, ◌++◌, OnOk, OnErr, IsTrue, codes, length, take, map, option_map};
 ghost use Rattle.std.specs.Prelude.{[], ◌==◌, if◌then◌else◌, decimal};
 ghost use Rattle.std.specs.Str.{bytes_eq};
-ghost use Rattle.type_names.specs.RustText.{joined};
-ghost use Rattle.rust_value.specs.Texts.{text_of, shown_part, fields_text, payload_text, parts_text, are_numbered, number_name, named_text, seq_text, content_text, quoted_content};
+ghost use Rattle.names.specs.Joined.{joined};
+ghost use Rattle.rust_value.specs.Texts.{text_of, shown_part, fields_text, payload_text, parts_text, are_numbered, number_name, named_text};
+ghost use Rattle.rust_value.specs.Texts.{seq_text, content_text, quoted_content};
 ghost use Rattle.rust_value.specs.Utf8.{has_texts, part_has_texts, all_true, true_of, is_text};
 
 use crate::pointers::{put_counted, put_dyn, put_thin};
-use crate::scalars::{
-    put_address, put_bool, put_char, put_float32, put_float64, put_hex, put_quoted, put_signed,
-    put_unsigned,
-};
+use crate::scalars::{put_bool, put_char, put_float32, put_float64, put_hex, put_quoted};
 use crate::value::{Part, Val};
 use itoa::Buffer;
 use rv_io::{Boxed, Buf, Memory, Text};
@@ -29,6 +27,7 @@ pub fn text(val: &Val, out: &mut Buf) -> Result<(), Memory>
     done
 }
 
+/// Appends the text of a value.
 #[cycle(printing)]
 fn put_value(val: &Val, out: &mut Buf) -> Result<(), Memory>
     requires { IsTrue (has_texts val.now) }
@@ -39,8 +38,8 @@ fn put_value(val: &Val, out: &mut Buf) -> Result<(), Memory>
         Val::Unit => out.put(b"()"),
         Val::Bool(b) => put_bool(*b, out),
         Val::Char(c) => put_char(*c, out),
-        Val::Unsigned(n) => put_unsigned(*n, out),
-        Val::Signed(n) => put_signed(*n, out),
+        Val::Unsigned(n) => out.put_decimal(*n),
+        Val::Signed(n) => out.put_signed(*n),
         Val::Float32(bits) => put_float32(*bits, out),
         Val::Float64(bits) => put_float64(*bits, out),
         Val::Fields(parts) => put_fields(parts.as_slice(), out),
@@ -54,17 +53,17 @@ fn put_value(val: &Val, out: &mut Buf) -> Result<(), Memory>
             put_content(content, out)
         }
         Val::Slice(kind, at, len, content) => {
-            put_counted(*kind, "", *at, *len, out)?;
+            put_counted(*kind, b"", *at, *len, out)?;
             put_content(content, out)
         }
         Val::Str(kind, at, len, text) => {
-            put_counted(*kind, "str", *at, *len, out)?;
+            put_counted(*kind, b"str", *at, *len, out)?;
             put_text(text, out)
         }
         Val::Dyn(kind, at, vtable) => put_dyn(*kind, *at, *vtable, out),
         Val::Function(at) => {
             out.put(b"fn ")?;
-            put_address(*at, out)
+            out.put_hex(*at)
         }
         Val::Bytes(bytes) => {
             out.put(b"bytes ")?;
@@ -139,6 +138,7 @@ fn is_number_name(name: &[u8], i: usize) -> bool
     }
 }
 
+/// Appends the values of the parts, as in a tuple.
 #[cycle(printing)]
 fn put_unnamed(parts: &[Part], out: &mut Buf) -> Result<(), Memory>
     requires { IsTrue (all_true (map part_has_texts parts.now)) }
@@ -152,6 +152,7 @@ fn put_unnamed(parts: &[Part], out: &mut Buf) -> Result<(), Memory>
     Ok(())
 }
 
+/// Appends the names and the values of the parts, as in braces.
 #[cycle(printing)]
 fn put_named(parts: &[Part], out: &mut Buf) -> Result<(), Memory>
     requires { IsTrue (all_true (map part_has_texts parts.now)) }
@@ -165,6 +166,7 @@ fn put_named(parts: &[Part], out: &mut Buf) -> Result<(), Memory>
     Ok(())
 }
 
+/// Appends the name of a part and its value.
 #[cycle(printing)]
 fn put_part(part: &Part, out: &mut Buf) -> Result<(), Memory>
     requires { IsTrue (part_has_texts part.now) }
@@ -209,10 +211,11 @@ fn put_more(more: u64, after: bool, out: &mut Buf) -> Result<(), Memory>
         out.put(b", ")?;
     }
     out.put(b".. ")?;
-    put_unsigned(u128::from(more), out)?;
+    out.put_decimal(u128::from(more))?;
     out.put(b" more")
 }
 
+/// Appends the values, with a comma between each two.
 #[cycle(printing)]
 fn put_values(values: &[Val], out: &mut Buf) -> Result<(), Memory>
     requires { IsTrue (all_true (map has_texts values.now)) }

@@ -1,13 +1,11 @@
 //! The texts of numbers, characters, texts and bytes. After a refusal what stood before stays in front.
-ghost use Rattle.std.specs.Prelude.{◌≡◌, ◌<◌, ◌++◌, OnOk, OnErr, IsTrue, codes, decimal, length, take};
-ghost use Rattle.std.specs.Fmt.{digits, signed_decimal};
+ghost use Rattle.std.specs.Prelude.{◌≡◌, ◌<◌, ◌++◌, OnOk, OnErr, IsTrue, codes, length, take};
 ghost use Rattle.std.specs.Int.{to_be_bytes, w32, w64};
 ghost use Rattle.std.specs.List.{flat_map};
 ghost use Rattle.std.specs.Str.{is_utf8, chars};
 ghost use Rattle.hex.specs.Hex.{encode_lower};
-ghost use Rattle.rust_value.specs.Texts.{escaped, in_quotes, quoted, address_text, bool_text};
+ghost use Rattle.rust_value.specs.Texts.{escaped, in_quotes, quoted, bool_text};
 
-use itoa::Buffer;
 use rv_io::{Buf, Memory};
 use std::str;
 
@@ -21,22 +19,6 @@ pub(crate) fn put_bool(b: bool, out: &mut Buf) -> Result<(), Memory>
     } else {
         out.put(b"false")
     }
-}
-
-/// A number in decimal digits.
-pub(crate) fn put_unsigned(n: u128, out: &mut Buf) -> Result<(), Memory>
-    ensures appended { OnOk result (out.new ≡ out.old ++ decimal n) }
-    ensures front { OnErr result (take (length out.old) out.new ≡ out.old) }
-{
-    out.put(Buffer::new().format(n).as_bytes())
-}
-
-/// A number in decimal digits, with its sign where it is negative.
-pub(crate) fn put_signed(n: i128, out: &mut Buf) -> Result<(), Memory>
-    ensures appended { OnOk result (out.new ≡ out.old ++ signed_decimal n) }
-    ensures front { OnErr result (take (length out.old) out.new ≡ out.old) }
-{
-    out.put(Buffer::new().format(n).as_bytes())
 }
 
 /// The bits of an `f32` in eight digits.
@@ -63,14 +45,6 @@ pub(crate) fn put_hex(bytes: &[u8], out: &mut Buf) -> Result<(), Memory>
     ensures front { OnErr result (take (length out.old) out.new ≡ out.old) }
 {
     out.put(hex::encode(out.alloc(), bytes)?.as_bytes())
-}
-
-/// An address in hexadecimal digits.
-pub(crate) fn put_address(at: u64, out: &mut Buf) -> Result<(), Memory>
-    ensures appended { OnOk result (out.new ≡ out.old ++ address_text at) }
-    ensures front { OnErr result (take (length out.old) out.new ≡ out.old) }
-{
-    out.put(format!(in out.alloc(); "0x{at:x}")?.as_bytes())
 }
 
 /// A character between single quotes.
@@ -119,11 +93,12 @@ fn put_escaped(quote: char, c: char, out: &mut Buf) -> Result<(), Memory>
         '\r' => out.put(b"\\r"),
         '\t' => out.put(b"\\t"),
         '\\' => out.put(b"\\\\"),
-        _ if c == quote => out.put(format!(in out.alloc(); "\\{c}")?.as_bytes()),
-        ' '..='~' => out.put(format!(in out.alloc(); "{c}")?.as_bytes()),
+        _ if c == quote => out.put(&[b'\\', c as u8]),
+        ' '..='~' => out.put(&[c as u8]),
         _ => {
-            let code = c as u32;
-            out.put(format!(in out.alloc(); "\\u{{{code:x}}}")?.as_bytes())
+            out.put(b"\\u{")?;
+            out.put_hex_digits(u64::from(c as u32))?;
+            out.put(b"}")
         }
     }
 }

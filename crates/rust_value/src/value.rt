@@ -1,6 +1,6 @@
 //! Values.
+use names::{PtrKind, Word};
 use rv_io::{Boxed, List, Text};
-use type_names::{PtrKind, Word};
 
 /// A value under the name of a field.
 #[cycle(value)]

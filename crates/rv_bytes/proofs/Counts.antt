@@ -24,7 +24,7 @@ count_more n r h f c = record {
     fewest (suc zero) i j = absurd (omega (arith, j, h))
     fewest (suc (suc k)) i j = omega (arith, c.fewest (suc k) (omega arith) (omega (arith, j, pow_next (suc k))))
 
--- the first byte, and behind it the groups that follow
+-- the first byte, and after it the groups that follow
 pub fill_rest : (more n k : ℕ) (xs ys : List ℕ) → let zs = slice_set xs 0 (128 + n % 128) in 0 < more → more < length xs → length ys ≡ length (take (length zs - 1) (drop 1 zs))
     → take (more - 1 + 1) ys ≡ groups_bytes (more - 1) (n / 128) → take (more + 1) (put_mid 1 k zs ys) ≡ groups_bytes more n
 fill_rest zero n k xs ys p l e h = absurd (omega (arith, p))

@@ -1,14 +1,14 @@
--- A reader is exact for a form: it gives what is spelled, and refuses where something is at fault.
-use Rattle.std.proofs.Common.{◌≡◌, ℕ, ◌+◌, Bool, true, false, if◌then◌else◌, List, [], ◌++◌, length, Option, Some, None, inl, inr, refl, sym, ap, subst, ◌∙◌, arith, append_assoc, length-append, add-zero}
-use Rattle.rv_bytes.specs.Forms.{Form, Splits, nothing, follow, made, item, choose, fails, IsDefinite}
-use Rattle.rv_bytes.specs.Readers.{Res, got, bad, Reader, and_then, with_value, unless_broken, as_item}
+-- A reader is exact for a form: it gives what is spelled, and refuses where something is invalid.
+use Rattle.std.proofs.Common.{◌≡◌, ℕ, ◌+◌, Bool, true, false, if◌then◌else◌, List, [], ◌∷◌, ◌++◌, length, Option, Some, None, inl, inr, refl, sym, ap, subst, ◌∙◌, arith, append_assoc, length-append, add-zero}
+use Rattle.rv_bytes.specs.Forms.{Form, Splits, nothing, follow, made, each, here, item, choose, fails, IsDefinite}
+use Rattle.rv_bytes.specs.Readers.{Res, got, bad, Reader, and_then, with_value, read_each, unless_broken, as_item}
 
--- what a reader says of these bytes is so: it gives a value that is spelled in front of the rest, or what is first at fault
+-- what a reader says of these bytes is so: it gives a value that is spelled in front of the rest, or what is first invalid
 abbrev pub Right : {M A : Type 0} → Form M A → ℕ → List ℕ → Res M A → Type 0
 Right F n s (got v m k) = (t : List ℕ) × (F.spells n v t × ((s ≡ t ++ k) × (m ≡ n + length t)))
 Right F n s (bad r m) = F.faults n s r m
 
--- what is spelled is given, what is at fault is refused, and each answer is one of the two
+-- what is spelled is given, what is invalid is refused, and each answer is one of the two
 pub record Exact {M A : Type 0} (F : Form M A) (read : Reader M A) : Type 0 where
   pub reads : (n : ℕ) (v : A) (t k : List ℕ) → F.spells n v t → read n (t ++ k) ≡ got v (n + length t) k
   pub refuses : (n : ℕ) (s : List ℕ) (r : ℕ) (m : M) → F.faults n s r m → read n s ≡ bad r m
@@ -20,13 +20,13 @@ one_value F read e n v w t u k l h g p =
     let q : got v (n + length t) k ≡ got w (n + length u) l = sym (e.reads n v t k h) ∙ ap (read n) p ∙ e.reads n w u l g in
     (cc, cc)
 
--- bytes are first at fault in at most one way
+-- bytes have a first error in at most one way
 pub one_fault : {M A : Type 0} (F : Form M A) (read : Reader M A) → Exact F read → (n : ℕ) (s : List ℕ) (r q : ℕ) (m k : M) → F.faults n s r m → F.faults n s q k → (r ≡ q) × (m ≡ k)
 one_fault F read e n s r q m k h g =
     let p : bad r m ≡ bad q k = sym (e.refuses n s r m h) ∙ e.refuses n s q k g in
     (cc, cc)
 
--- no bytes begin with a value and are at fault
+-- no bytes begin with a value and are invalid
 pub never_both : {M A : Type 0} (F : Form M A) (read : Reader M A) → Exact F read → (n : ℕ) (v : A) (t k : List ℕ) (r : ℕ) (m : M) → F.spells n v t → F.faults n (t ++ k) r m → ⊥
 never_both F read e n v t k r m h g =
     let p : got v (n + length t) k ≡ bad r m = sym (e.reads n v t k h) ∙ e.refuses n (t ++ k) r m g in
@@ -88,6 +88,24 @@ made_exact {M} {A} {B} p F f e = record {
   where
     whole : (n : ℕ) (s : List ℕ) (x : Res M A) → Right F n s x → Right (made p F) n s (with_value p x)
     whole n s (got v m k) h = (h.0, ((v, (refl, h.1.0)), h.1.1))
+    whole n s (bad r m) h = h
+
+-- for each of a list a reader
+pub each_exact : {M X A : Type 0} (F : X → Form M A) (f : X → Reader M A) → ((x : X) → Exact (F x) (f x)) → (xs : List X) → Exact (each F xs) (read_each f xs)
+each_exact F f e [] = nothing_exact []
+each_exact F f e (x ∷ xs) = follow_exact (F x) (λ a. made (λ more. a ∷ more) (each F xs)) (f x) (λ a m k. with_value (λ more. a ∷ more) (read_each f xs m k)) (e x)
+    (λ a. made_exact (λ more. a ∷ more) (each F xs) (read_each f xs) (each_exact F f e xs))
+
+-- the reader of what may stand at its place
+pub here_exact : {M A : Type 0} (F : ℕ → Form M A) (f : ℕ → Reader M A) → ((n : ℕ) → Exact (F n) (f n)) → Exact (here F) (λ n s. f n n s)
+here_exact {M} {A} F f e = record {
+  reads = λ n v t k h. (e n).reads n v t k h;
+  refuses = λ n s r m h. (e n).refuses n s r m h;
+  right = λ n s. whole n s (f n n s) ((e n).right n s);
+}
+  where
+    whole : (n : ℕ) (s : List ℕ) (x : Res M A) → Right (F n) n s x → Right (here F) n s x
+    whole n s (got v m k) h = h
     whole n s (bad r m) h = h
 
 -- the reader of one item

@@ -92,7 +92,7 @@ pub numeric_spelled : (z : ℤ) → negsuc (2 ^ 63 - 1) ≤ℤ z → z <ℤ pos 
 numeric_spelled (pos n) low high = spelled_from_zero n (omega (arith, ints, high))
 numeric_spelled (negsuc n) low high = spelled_below_zero n (omega (arith, ints, low))
 
--- a leaf's kind, and behind it the lowest bytes of a word, over the front of some bytes
+-- a leaf's kind, and after it the lowest bytes of a word, over the front of some bytes
 pub leaf_written : (kind word w n k : ℕ) (zs rest xs ys : List ℕ) → w ≤ 8 → n ≡ w → xs ≡ little_bytes 2 kind ++ zs → ys ≡ little_bytes 8 word ++ rest
     → take (2 + n) (put_mid 2 k xs ys) ≡ little_bytes 2 kind ++ little_bytes w word
 leaf_written kind word w n k zs rest xs ys h e f g =

@@ -69,7 +69,7 @@ RowPart P s n [] t z = (s ≡ z) × (t ≡ [])
 RowPart P s n (v ∷ vs) t z = (P.over s ≡ false) × Splits ((P.due s).spells n v) (λ m b. RowPart P (P.next s v) m vs b z) n t
 
 -- one value more
-row_push : {S A : Type 0} (P : Steps S A ℕ) (s : S) (n : ℕ) (vs : List A) (v : A) (t u : List ℕ) (z : S) → RowPart P s n vs t z → P.over z ≡ false → (P.due z).spells (n + length t) v u → RowPart P s n (vs ++ v ∷ []) (t ++ u) (P.next z v)
+pub row_push : {S A : Type 0} (P : Steps S A ℕ) (s : S) (n : ℕ) (vs : List A) (v : A) (t u : List ℕ) (z : S) → RowPart P s n vs t z → P.over z ≡ false → (P.due z).spells (n + length t) v u → RowPart P s n (vs ++ v ∷ []) (t ++ u) (P.next z v)
 row_push P s n [] v t u z h o w = rw h.1 (subst (λ y. RowPart P y n (v ∷ []) u (P.next z v)) (sym h.0) (
   o,
   record {
@@ -94,7 +94,7 @@ row_push P s n (x ∷ vs) v t u z h o w =
     )
 
 -- a part that reaches a state in which the row is over is the row
-row_whole : {S A : Type 0} (P : Steps S A ℕ) (s : S) (n : ℕ) (vs : List A) (t : List ℕ) (z : S) → RowPart P s n vs t z → P.over z ≡ true → RowSpells P s n vs t
+pub row_whole : {S A : Type 0} (P : Steps S A ℕ) (s : S) (n : ℕ) (vs : List A) (t : List ℕ) (z : S) → RowPart P s n vs t z → P.over z ≡ true → RowSpells P s n vs t
 row_whole P s n [] t z h o = (ap P.over h.0 ∙ o, h.1)
 row_whole P s n (v ∷ vs) t z h o = let p = h.1 in (h.0, record { front = p.front; back = p.back; split = p.split; is_front = p.is_front; is_back = row_whole P (P.next s v) (n + length p.front) vs p.back z p.is_back o })
 

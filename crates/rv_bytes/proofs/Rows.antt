@@ -69,7 +69,7 @@ pub rows_right : {S A M : Type 0} (P : Steps S A M) (read : S → Reader M A) (h
 rows_right P read here b e zero s n t h = absurd (omega arith)
 rows_right {S} {A} {M} P read here b e (suc f) s n t h = each_way (rows_right P read here b e f) (P.over s) refl
   where
-    -- what came behind the first value
+    -- what came after the first value
     behind : (v : A) (u k : List ℕ) (y : Res M (List A)) → P.over s ≡ false → (P.due s).spells n v u → t ≡ u ++ k → Right (row P (P.next s v)) (n + length u) k y → Right (row P s) n t (with_value (λ vs. v ∷ vs) y)
     behind v u k (got vs m l) o p q w = (
       u ++ w.0,

@@ -16,7 +16,7 @@ begins_at F read e section at i new (Ok v) h =
     record { inside = i; begins = record { front = w.0; back = new.rest; split = w.1.1.0; is_front = w.1.0; is_back = tt } }
 begins_at F read e section at i new (Err d) h = tt
 
--- what it refuses is at fault there
+-- what it refuses is invalid there
 pub is_fault_at : {A : Type 0} (outside_rule : ℕ) (F : Form ℕ A) (read : Reader ℕ A) → Exact F read → (section : List ℕ) (at : ℕ) → at < length section → (new : Place) (result : Result A DwErr)
     → Reads (read at (drop at section)) result new → IfErr result (IsFaultAt outside_rule F section at)
 is_fault_at outside_rule F read e section at i new (Ok v) h = tt

@@ -1,6 +1,8 @@
 -- The reader of a text up to a zero byte is exact.
-use Rattle.std.proofs.Common.{◌≡◌, ◌≢◌, ℕ, suc, ◌+◌, ◌==◌, Bool, true, false, nat_lt, List, [], ◌∷◌, ◌++◌, length, take, drop, Some, None, ◌⊎◌, inl, inr, refl, sym, ap, subst, ◌∙◌, arith, append_assoc, length-append}
+use Rattle.std.proofs.Common.{◌≡◌, ◌≢◌, ℕ, suc, ◌+◌, ◌==◌, Bool, true, false, nat_lt, List, [], ◌∷◌, ◌++◌, length, take, drop, get_or, Option, Some, None, ◌⊎◌, inl, inr, refl, sym, ap, subst, ◌∙◌, arith, append_assoc, length-append}
 use Rattle.std.specs.List.{position_or_len}
+use Rattle.std.proofs.lemmas.List.Sums.{position_or_len_is}
+use Rattle.memchr.specs.Find.{IsFirstByte, is_byte}
 use Rattle.std.proofs.Math.Seq.{take-append_seam, drop-append_seam}
 use Rattle.std.proofs.lemmas.List.Elements.{All-nil, All-cons, All-head, All-tail}
 use Rattle.std.proofs.lemmas.Bool.{le-leb, lt-leb, ne_eqb, eqb-true, eqb-false}
@@ -24,7 +26,7 @@ before_zero s = position_or_len (λ b. b == 0) s
 one_before : (b : ℕ) (s : List ℕ) (e : (b == 0) ≡ false) → before_zero (b ∷ s) ≡ suc (before_zero s)
 one_before b s e = rw e (omega arith)
 
--- a zero behind bytes that are none
+-- a zero after bytes that are none
 zero_behind : (v k : List ℕ) → LacksZero v → before_zero (v ++ 0 ∷ k) ≡ length v
 zero_behind [] k h = refl
 zero_behind (b ∷ v) k h = one_before b (v ++ 0 ∷ k) (ne_eqb b 0 (All-head IsNoEnd b v h)) ∙ ap suc (zero_behind v k (All-tail IsNoEnd b v h))
@@ -51,7 +53,7 @@ either_zero (b ∷ s) = each_way (b == 0) refl (either_zero s)
     each_way false e (inl h) = inl (record { text = b ∷ h.text; back = h.back; bytes = ap (λ z. b ∷ z) h.bytes; lacks = All-cons IsNoEnd b h.text (eqb-false b 0 e) h.lacks })
     each_way false e (inr h) = inr (All-cons IsNoEnd b s (eqb-false b 0 e) h)
 
--- the first zero, behind bytes that are none
+-- the first zero, after bytes that are none
 found : (v k : List ℕ) → LacksZero v → first_zero (v ++ 0 ∷ k) ≡ Some (length v)
 found v k h =
     let at : before_zero (v ++ 0 ∷ k) ≡ length v = zero_behind v k h in
@@ -114,3 +116,19 @@ text_taken old new i b e h = told (either_zero old.rest)
         let front : take i b ≡ z.text = rw (value, same) (take-append_seam z.text (0 ∷ [])) in
         record { spelling = text; spells = (ap (λ v. v ++ 0 ∷ []) (sym front), subst LacksZero (sym front) z.lacks); bytes = split ∙ ap (λ k. text ++ k) (sym rest); past = past }
     told (inr l) = let none : first_zero old.rest ≡ None = missing old.rest l in absurd (cc)
+
+not_zero : (b : Bool) → (b ≡ true → ⊥) → b ≡ false
+not_zero true h = absurd (h refl)
+not_zero false h = refl
+
+below_itself : (n : ℕ) → nat_lt n n ≡ false
+below_itself n = lt-leb (suc n) n (omega arith)
+
+-- the first byte that is zero, by a search
+pub first_is : (s : List ℕ) (r : Option ℕ) → IsFirstByte (is_byte 0) s r → r ≡ first_zero s
+first_is s None h =
+    let at : before_zero s ≡ length s = position_or_len_is (λ b. b == 0) s (length s) 0 (omega arith) (λ k l. not_zero (get_or s k 0 == 0) (h k (omega arith) l)) (λ l. absurd (omega arith)) in
+    rw (at, below_itself (length s)) refl
+first_is s (Some k) h =
+    let at : before_zero s ≡ k = position_or_len_is (λ b. b == 0) s k 0 (omega (arith, h.0.high)) (λ j l. not_zero (get_or s j 0 == 0) (h.0.before j (omega arith) l)) (λ l. h.1) in
+    rw (at, le-leb (suc k) (length s) h.0.high) refl

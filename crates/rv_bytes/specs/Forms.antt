@@ -1,11 +1,11 @@
--- Forms: what bytes a value may have, and where bytes that have no value are first at fault.
+-- Forms: what bytes a value may have, and where the first error of bytes that have no value stands.
 use Rattle.std.specs.Prelude.{◌≡◌, ℕ, ◌+◌, Bool, true, false, List, [], ◌∷◌, ◌++◌, length, Option, Some, None, ◌⊎◌}
 
 -- the values are of type A; M says where a fault stands, mostly the place of the item's first byte
 pub record Form (M A : Type 0) : Type 1 where
   -- at this place, the value may have these bytes
   pub spells : ℕ → A → List ℕ → Type 0
-  -- where these bytes follow this place, the first item at fault breaks this rule, and stands there
+  -- where these bytes follow this place, the first invalid item breaks this rule, and stands there
   pub faults : ℕ → List ℕ → ℕ → M → Type 0
 
 -- the bytes, from place n on, are a front and a back, which is told its own place
@@ -23,7 +23,7 @@ nothing a = record {
   faults = λ n s r m. ⊥;
 }
 
--- a value, then what it asks for: the first is at fault, or it is there and what follows is at fault
+-- a value, then what it asks for: the first is invalid, or it is there and what follows is invalid
 abbrev pub follow : {M A B : Type 0} → Form M A → (A → Form M B) → Form M B
 follow {A = A} F G = record {
   spells = λ n w t. (v : A) × Splits (F.spells n v) (λ m. (G v).spells m w) n t;
@@ -37,7 +37,19 @@ made {A = A} f F = record {
   faults = F.faults;
 }
 
--- one item: whatever is at fault in it stands at its first byte; then, the rule that its value breaks
+-- for each of a list a value
+abbrev pub each : {M X A : Type 0} → (X → Form M A) → List X → Form M (List A)
+each F [] = nothing []
+each F (x ∷ xs) = follow (F x) (λ a. made (λ more. a ∷ more) (each F xs))
+
+-- what may stand at this place, which the form is told
+abbrev pub here : {M A : Type 0} → (ℕ → Form M A) → Form M A
+here F = record {
+  spells = λ n v t. (F n).spells n v t;
+  faults = λ n s r m. (F n).faults n s r m;
+}
+
+-- one item: whatever is invalid in it stands at its first byte; then, the rule that its value breaks
 abbrev pub item : {A : Type 0} → Form ℕ A → (A → Option ℕ) → Form ℕ A
 item {A = A} F breaks = record {
   spells = λ n v t. F.spells n v t × (breaks v ≡ None);
@@ -67,7 +79,7 @@ abbrev pub RowSpells : {S A M : Type 0} → Steps S A M → S → ℕ → List A
 RowSpells P s n [] t = (P.over s ≡ true) × (t ≡ [])
 RowSpells P s n (v ∷ vs) t = (P.over s ≡ false) × Splits ((P.due s).spells n v) (λ m. RowSpells P (P.next s v) m vs) n t
 
--- behind these values the next item is at fault
+-- after these values the next item is invalid
 abbrev pub RowFaults : {S A M : Type 0} → Steps S A M → S → ℕ → List A → List ℕ → ℕ → M → Type 0
 RowFaults P s n [] t r m = (P.over s ≡ false) × (P.due s).faults n t r m
 RowFaults P s n (v ∷ vs) t r m = (P.over s ≡ false) × Splits ((P.due s).spells n v) (λ k b. RowFaults P (P.next s v) k vs b r m) n t
@@ -79,7 +91,7 @@ row {A = A} P s = record {
   faults = λ n t r m. (vs : List A) × RowFaults P s n vs t r m;
 }
 
--- bytes begin with at most one value, are first at fault in at most one way, and never both
+-- bytes begin with at most one value, have a first error in at most one way, and never both
 pub record IsDefinite {M A : Type 0} (F : Form M A) : Type 0 where
   pub one_value : (n : ℕ) (v w : A) (t u k l : List ℕ) → F.spells n v t → F.spells n w u → t ++ k ≡ u ++ l → (v ≡ w) × (k ≡ l)
   pub one_fault : (n : ℕ) (s : List ℕ) (r q : ℕ) (m k : M) → F.faults n s r m → F.faults n s q k → (r ≡ q) × (m ≡ k)

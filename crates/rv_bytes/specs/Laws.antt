@@ -1,8 +1,8 @@
--- Laws of the forms.
+-- Theorems on the forms.
 use Rattle.std.specs.Prelude.{◌≡◌, ◌<◌, ℕ, List}
 use Rattle.std.specs.List.{All}
 use Rattle.rv_bytes.specs.Forms.{Form, IsDefinite}
-use Rattle.rv_bytes.specs.Numbers.{bytes, number, uleb, sleb, zero_text}
+use Rattle.rv_bytes.specs.Numbers.{bytes, number, uleb, sleb, zero_text, text}
 use Rattle.rv_bytes.specs.Leaves.{numeric}
 use Rattle.rv_bytes.specs.Writers.{IsShortest}
 
@@ -13,6 +13,7 @@ pub record AreDefinite : Type 0 where
   pub uleb : IsDefinite uleb
   pub sleb : IsDefinite sleb
   pub zero_text : IsDefinite zero_text
+  pub text : IsDefinite text
   pub numeric : IsDefinite numeric
 
 -- two shortest spellings of one value, both of bytes, are the same

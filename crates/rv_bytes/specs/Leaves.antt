@@ -1,5 +1,5 @@
 -- Numeric leaves of CodeView, LF_NUMERIC: a kind in two bytes, which is the number itself below 0x8000, and else says how
--- the number is laid out behind it.
+-- the number is laid out after it.
 use Rattle.std.specs.Prelude.{ℕ, ◌-◌, ◌*◌, ◌^◌, suc, ◌==◌, nat_lt, ℤ, pos, negsuc, Bool, true, false, if◌then◌else◌, List, [], ◌∷◌, ◌++◌, Option, Some, None}
 use Rattle.std.specs.List.{find}
 use Rattle.byteorder.specs.Endian.{twos_complement, little_bytes}
@@ -37,7 +37,7 @@ leaf_form (Some l) = made (leaf_value l) (number l.width)
 abbrev pub behind_kind : ℕ → Form ℕ ℤ
 behind_kind kind = choose (nat_lt kind 0x8000) (nothing (pos kind)) (leaf_form (leaf_of kind))
 
--- what is at fault in a numeric leaf stands at its first byte
+-- what is invalid in a numeric leaf stands at its first byte
 abbrev pub numeric : Form ℕ ℤ
 numeric = item (follow (number 2) behind_kind) (λ _. None)
 

@@ -7,6 +7,9 @@ pub mod Reads
 pub mod Readers
 pub mod NumberReaders
 pub mod Results
+pub mod Nested
+pub mod NestedReaders
+pub mod Meanings
 pub mod Sections
 pub mod Writers
 pub mod Laws

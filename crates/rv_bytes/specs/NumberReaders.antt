@@ -4,7 +4,7 @@ use Rattle.std.specs.List.{position}
 use Rattle.byteorder.specs.Endian.{little_number}
 use Rattle.rv_bytes.specs.Rules.{short, wide, no_zero, unknown_leaf}
 use Rattle.rv_bytes.specs.Readers.{Res, got, bad, Reader, and_then, with_value, as_item}
-use Rattle.rv_bytes.specs.Numbers.{zero_or, low_bits, signed_bits}
+use Rattle.rv_bytes.specs.Numbers.{zero_or, low_bits, signed_bits, text_breaks}
 use Rattle.rv_bytes.specs.Leaves.{leaf_of, leaf_value}
 use Rattle.rv_bytes.specs.declared.numeric.Leaf.{Leaf}
 
@@ -56,6 +56,10 @@ text_to n s (Some i) = got (take i s) (n + suc i) (drop (suc i) s)
 -- the bytes before a zero byte
 abbrev pub read_zero_text : Reader ℕ (List ℕ)
 read_zero_text n s = text_to n s (first_zero s)
+
+-- a text before a zero byte
+abbrev pub read_text : Reader ℕ (List ℕ)
+read_text n s = as_item text_breaks n (read_zero_text n s)
 
 -- what follows a kind from 0x8000 on
 abbrev pub read_by_leaf : Option Leaf → Reader ℕ ℤ

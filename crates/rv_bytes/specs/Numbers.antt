@@ -1,9 +1,10 @@
 -- Bytes, numbers of so many bytes, LEB128 numbers (DWARF 5, 7.6), and texts up to a zero byte (7.5.5, "string").
-use Rattle.std.specs.Prelude.{◌≡◌, ◌≢◌, ◌<◌, ℕ, ◌+◌, ◌-◌, ◌*◌, ◌%◌, ◌^◌, ◌≤◌, ◌==◌, ◌||◌, ◌-ℤ◌, ℤ, pos, nat_lt, if◌then◌else◌, Bool, true, false, List, [], ◌∷◌, ◌++◌, length, slice_index, ◌⊎◌}
+use Rattle.std.specs.Prelude.{◌≡◌, ◌≢◌, ◌<◌, ℕ, ◌+◌, ◌-◌, ◌*◌, ◌%◌, ◌^◌, ◌≤◌, ◌==◌, ◌||◌, ◌&&◌, ◌-ℤ◌, ℤ, pos, nat_lt, nat_le, if◌then◌else◌, Bool, true, false, List, [], ◌∷◌, ◌++◌, length, drop, slice_index, Option, Some, None, ◌⊎◌}
 use Rattle.std.specs.List.{All}
 use Rattle.byteorder.specs.Endian.{little_number}
-use Rattle.rv_bytes.specs.Rules.{short, wide, no_zero}
-use Rattle.rv_bytes.specs.Forms.{Form, made}
+use Rattle.std.specs.Str.{is_utf8}
+use Rattle.rv_bytes.specs.Rules.{short, wide, no_zero, no_text}
+use Rattle.rv_bytes.specs.Forms.{Form, made, item}
 
 -- so many bytes; too few are short where they begin
 abbrev pub bytes : ℕ → Form ℕ (List ℕ)
@@ -26,6 +27,10 @@ pub record AreGroups (tenth : ℕ → Bool) (t : List ℕ) : Type 0 where
   pub ends : last < 128
   pub at_most_ten : length front ≤ 9
   pub may_be_tenth : length front ≡ 9 → tenth last ≡ true
+
+-- the first byte is a number's only group
+abbrev pub IsLowByte : List ℕ → ℕ → Type 0
+IsLowByte s b = (b < 128) × (s ≡ b ∷ drop 1 s)
 
 -- fewer than ten bytes, and all go on
 pub record AreShort (s : List ℕ) : Type 0 where
@@ -86,3 +91,11 @@ zero_text = record {
   spells = λ n v t. (t ≡ v ++ 0 ∷ []) × LacksZero v;
   faults = λ n s r m. LacksZero s × ((r ≡ no_zero) × (m ≡ n));
 }
+
+-- the rule that bytes break as a text, which is UTF-8 of at most 65,535 bytes
+abbrev pub text_breaks : List ℕ → Option ℕ
+text_breaks v = if nat_le (length v) 65535 && is_utf8 v then None else Some no_text
+
+-- a text, and the zero byte that ends it and is no part of the value
+abbrev pub text : Form ℕ (List ℕ)
+text = item zero_text text_breaks

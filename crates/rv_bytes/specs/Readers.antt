@@ -1,4 +1,4 @@
--- Readers, for proofs: what was read, the place behind it and what follows, or the rule and the place of the first fault.
+-- Readers, for proofs: what was read, the place after it and what follows, or the rule and the place of the first fault.
 use Rattle.std.specs.Prelude.{ℕ, zero, suc, Bool, if◌then◌else◌, List, [], ◌∷◌, length, Option, Some, None}
 
 -- what a reader gives
@@ -19,6 +19,11 @@ and_then (bad r m) f = bad r m
 abbrev pub with_value : {M A B : Type 0} → (A → B) → Res M A → Res M B
 with_value f (got v n k) = got (f v) n k
 with_value f (bad r m) = bad r m
+
+-- for each of a list a value
+abbrev pub read_each : {M X A : Type 0} → (X → Reader M A) → List X → Reader M (List A)
+read_each f [] n s = got [] n s
+read_each f (x ∷ xs) n s = and_then (f x n s) (λ a m k. with_value (λ more. a ∷ more) (read_each f xs m k))
 
 -- refused by this rule, if there is one
 abbrev pub unless_broken : {M A : Type 0} → Option ℕ → M → Res M A → Res M A

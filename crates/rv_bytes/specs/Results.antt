@@ -17,7 +17,7 @@ GivesBy view r (Err e) p = r ≡ bad (rule_of e) (place_of e)
 abbrev pub Gives : {A : Type 0} → Res ℕ A → Result A CutErr → Place → Type 0
 Gives r result p = GivesBy (λ v. v) r result p
 
--- the same for debug information; want of memory says nothing of the bytes
+-- the same for debug information; out of memory says nothing of the bytes
 abbrev pub ReadsBy : {A B : Type 0} → (B → A) → Res ℕ A → Result B DwErr → Place → Type 0
 ReadsBy view r (Ok v) p = r ≡ got (view v) p.at p.rest
 ReadsBy view r (Err (DwErr.Refused offset rule)) p = r ≡ bad rule offset

@@ -16,3 +16,11 @@ no_zero = 12
 -- a numeric leaf's kind is unknown
 abbrev pub unknown_leaf : ℕ
 unknown_leaf = 13
+
+-- the bytes before a zero byte are no text: they aren't UTF-8, or are more than 65,535
+abbrev pub no_text : ℕ
+no_text = 14
+
+-- an offset or an index leads outside its section
+abbrev pub outside : ℕ
+outside = 31

@@ -12,6 +12,12 @@ pub record IsPut {A : Type 0} (F : Form ℕ A) (value : A) (old new : List ℕ) 
   pub appended : new ≡ old ++ bytes
   pub spelled : SpellsEverywhere F value bytes
 
+-- bytes were appended that spell the value at the place where they stand, in a buffer that holds a section from its start
+pub record IsPutHere {A : Type 0} (F : Form ℕ A) (value : A) (old new : List ℕ) : Type 0 where
+  pub bytes : List ℕ
+  pub appended : new ≡ old ++ bytes
+  pub spelled : F.spells (length old) value bytes
+
 -- the old bytes stay, and others follow them
 pub record Extends (old new : List ℕ) : Type 0 where
   pub bytes : List ℕ

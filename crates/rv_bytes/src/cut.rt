@@ -1,6 +1,6 @@
 //! A slice with a place.
-ghost use Rattle.std.specs.Prelude.{◌≡◌, ◌≤◌, length, drop, IfOk, IfErr, OnErr};
-ghost use Rattle.rv_bytes.specs.Numbers.{bytes};
+ghost use Rattle.std.specs.Prelude.{◌≡◌, ◌<◌, ◌≤◌, ◌+◌, length, drop, IfSome, IfOk, IfErr, OnErr};
+ghost use Rattle.rv_bytes.specs.Numbers.{bytes, IsLowByte};
 ghost use Rattle.rv_bytes.specs.NumberReaders.{read_bytes};
 ghost use Rattle.rv_bytes.specs.Reads.{Takes, IsRefused};
 ghost use Rattle.rv_bytes.specs.Results.{GivesBy};
@@ -78,6 +78,22 @@ impl<'a> Cut<'a> {
         ensures { result.now ≡ self.now.rest }
     {
         self.rest
+    }
+
+    /// The next byte, where it is below 128. Takes no memory.
+    pub(crate) fn low_byte(&self) -> Option<u8>
+        ensures { IfSome result (IsLowByte self.now.rest) }
+    {
+        let (b, _) = self.rest.split_first()?;
+        if *b < 128 { Some(*b) } else { None }
+    }
+
+    /// Moves past the next byte. Takes no memory.
+    pub(crate) fn skip_byte(&mut self)
+        requires { 0 < length self.old.rest }
+        ensures { self.new ≡ record { at = self.old.at + 1; rest = drop 1 self.old.rest } }
+    {
+        self.rest = &self.rest[1..];
     }
 
     /// Reads the next `n` bytes. Refused as `Short` where fewer are left. Takes no memory.

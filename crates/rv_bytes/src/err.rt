@@ -22,6 +22,9 @@ pub enum CutErr {
     /// The kind of a numeric leaf is unknown.
     #[error("no numeric leaf is known by the kind at {at}")]
     Kind { at: usize },
+    /// The bytes before a zero byte aren't UTF-8, or are more than 65,535.
+    #[error("the bytes at {at} are no text")]
+    NoText { at: usize },
 }
 
 impl CutErr {
@@ -34,11 +37,12 @@ impl CutErr {
             CutErr::Wide { .. } => CutErr::Wide { at },
             CutErr::NoZero { .. } => CutErr::NoZero { at },
             CutErr::Kind { .. } => CutErr::Kind { at },
+            CutErr::NoText { .. } => CutErr::NoText { at },
         }
     }
 }
 
-/// Why debug information is refused: the first item at fault, in bytes from the front, and the
+/// Why debug information is refused: where the first invalid item begins, in bytes from the front, and the
 /// number of the rule that it breaks.
 #[derive(Clone, Copy, Debug, PartialEq, Eq, Error)]
 pub enum DwErr {
@@ -59,6 +63,7 @@ impl From<CutErr> for DwErr {
             CutErr::Wide { at } => (at, rule::WIDE),
             CutErr::NoZero { at } => (at, rule::NO_ZERO),
             CutErr::Kind { at } => (at, rule::UNKNOWN_LEAF),
+            CutErr::NoText { at } => (at, rule::NO_TEXT),
         };
         DwErr::Refused {
             offset: at as u64,

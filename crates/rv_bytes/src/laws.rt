@@ -1,7 +1,7 @@
-//! Laws of the forms, each the contract of a call that does nothing.
+//! Theorems on the forms, each the contract of a call that does nothing.
 ghost use Rattle.rv_bytes.specs.Laws.{AreDefinite, HaveOneShortest};
 
-/// Bytes begin with at most one number, leaf or text, are first at fault in at most one way, and
+/// Bytes begin with at most one number, leaf or text, have a first error in at most one way, and
 /// never both.
 pub fn numbers_have_one_reading()
     ensures { AreDefinite }

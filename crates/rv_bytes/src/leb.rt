@@ -1,5 +1,5 @@
 //! LEB128 numbers (DWARF 5, 7.6).
-ghost use Rattle.std.specs.Prelude.{◌≡◌, ◌≤◌, ◌<◌, ◌^◌, length, IfOk, IfErr, OnErr};
+ghost use Rattle.std.specs.Prelude.{◌≡◌, ◌≤◌, ◌<◌, ◌^◌, ◌∷◌, [], length, IfOk, IfErr, OnErr};
 ghost use Rattle.rv_bytes.specs.Numbers.{zero_or, AreGroups, low_bits, signed_bits, uleb, sleb};
 ghost use Rattle.rv_bytes.specs.NumberReaders.{groups_in, read_groups, read_uleb, read_sleb};
 ghost use Rattle.rv_bytes.specs.Reads.{Takes, IsRefused};
@@ -34,9 +34,12 @@ impl<'a> Cut<'a> {
         // The reader of the form gives the same, for the proofs of callers.
         ensures reads { Gives (read_uleb self.old.at self.old.rest) result self.new }
     {
-        match self.groups(1) {
-            Ok(bytes) => Ok(low_bits(bytes) as u64),
-            Err(e) => Err(e),
+        match self.low_byte() {
+            Some(b) => {
+                self.skip_byte();
+                Ok(u64::from(b))
+            }
+            None => self.long_uleb(),
         }
     }
 
@@ -56,6 +59,35 @@ impl<'a> Cut<'a> {
         // The reader of the form gives the same, for the proofs of callers.
         ensures reads { Gives (read_sleb self.old.at self.old.rest) result self.new }
     {
+        match self.low_byte() {
+            Some(b) => {
+                self.skip_byte();
+                Ok(signed_group(b))
+            }
+            None => self.long_sleb(),
+        }
+    }
+
+    /// An unsigned number of any count of groups.
+    fn long_uleb(&mut self) -> Result<u64, CutErr>
+        ensures taken { IfOk result (Takes uleb self.old self.new) }
+        ensures refused { IfErr result (IsRefused uleb self.old) }
+        ensures same { OnErr result (self.new ≡ self.old) }
+        ensures reads { Gives (read_uleb self.old.at self.old.rest) result self.new }
+    {
+        match self.groups(1) {
+            Ok(bytes) => Ok(low_bits(bytes) as u64),
+            Err(e) => Err(e),
+        }
+    }
+
+    /// A signed number of any count of groups.
+    fn long_sleb(&mut self) -> Result<i64, CutErr>
+        ensures taken { IfOk result (Takes sleb self.old self.new) }
+        ensures refused { IfErr result (IsRefused sleb self.old) }
+        ensures same { OnErr result (self.new ≡ self.old) }
+        ensures reads { Gives (read_sleb self.old.at self.old.rest) result self.new }
+    {
         match self.groups(127) {
             Ok(bytes) => Ok(signed_bits(bytes)),
             Err(e) => Err(e),
@@ -72,6 +104,18 @@ impl<'a> Cut<'a> {
             Err(LebErr::Short) => Err(CutErr::Short { at: self.at() }),
             Err(LebErr::Wide) => Err(CutErr::Wide { at: self.at() }),
         }
+    }
+}
+
+/// The signed number of one group.
+fn signed_group(b: u8) -> i64
+    requires { b < 128 }
+    ensures { result ≡ signed_bits (b ∷ []) }
+{
+    if b < 64 {
+        i64::from(b)
+    } else {
+        i64::from(b) - 128
     }
 }
 

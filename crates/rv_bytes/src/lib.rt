@@ -19,6 +19,3 @@ pub use laws::{numbers_have_one_reading, one_shortest_form};
 pub use put::{put_u8, put_u16, put_u32, put_u64, put_u128};
 pub use put_leaves::put_numeric;
 pub use put_leb::{put_sleb, put_uleb};
-
-#[cfg(test)]
-mod tests;

@@ -1,5 +1,6 @@
 //! Numbers of a fixed size, the lowest byte first.
-ghost use Rattle.std.specs.Prelude.{◌≡◌, ◌≤◌, IfOk, IfErr, OnErr};
+ghost use Rattle.std.specs.Prelude.{◌≡◌, ◌≤◌, length, IfOk, IfErr, OnErr};
+ghost use Rattle.byteorder.specs.Endian.{little_number};
 ghost use Rattle.rv_bytes.specs.Numbers.{number};
 ghost use Rattle.rv_bytes.specs.NumberReaders.{read_number};
 ghost use Rattle.rv_bytes.specs.Reads.{Takes, IsRefused};
@@ -111,6 +112,22 @@ impl<'a> Cut<'a> {
         ensures reads { Gives (read_number width self.old.at self.old.rest) result self.new }
     {
         let bytes = self.take(usize::from(width))?;
-        Ok(LittleEndian::read_uint(bytes, usize::from(width)))
+        Ok(little_number(bytes, width))
+    }
+}
+
+/// The number of `width` bytes, the lowest first.
+fn little_number(bytes: &[u8], width: u8) -> u64
+    requires low { 1 ≤ width }
+    requires high { width ≤ 8 }
+    requires whole { length bytes.now ≡ width }
+    ensures { result ≡ little_number width bytes.now }
+{
+    match width {
+        1 => u64::from(bytes[0]),
+        2 => u64::from(LittleEndian::read_u16(bytes)),
+        4 => u64::from(LittleEndian::read_u32(bytes)),
+        8 => LittleEndian::read_u64(bytes),
+        _ => LittleEndian::read_uint(bytes, usize::from(width)),
     }
 }

@@ -8,7 +8,7 @@ ghost use Rattle.rv_bytes.specs.Results.{Gives};
 use crate::cut::Cut;
 use crate::err::CutErr;
 
-/// How the number of a numeric leaf is laid out behind its kind.
+/// How the number of a numeric leaf is laid out after its kind.
 #[derive(Clone, Copy, Debug, PartialEq, Eq)]
 pub(crate) struct Leaf {
     /// The kind, from 0x8000 on.

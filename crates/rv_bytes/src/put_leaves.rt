@@ -15,7 +15,7 @@ use rv_io::{Buf, Memory};
 /// kind alone below 0x8000, the narrowest of LF_CHAR, LF_SHORT, LF_LONG and LF_QUADWORD below 0,
 /// and else of LF_USHORT, LF_ULONG and LF_UQUADWORD.
 ///
-/// After want of memory the buffer is as it was.
+/// Out of memory, the buffer is as it was.
 pub fn put_numeric(out: &mut Buf, n: i128) -> Result<(), Memory>
     requires low { negsuc (2 ^ 63 - 1) ≤ℤ n }
     requires high { n <ℤ pos (2 ^ 64) }
@@ -69,7 +69,7 @@ fn word_of(n: i128) -> u64
     }
 }
 
-/// Appends a leaf's kind, and so many of the lowest bytes of the word. After want of memory the
+/// Appends a leaf's kind, and so many of the lowest bytes of the word. Out of memory, the
 /// buffer is as it was.
 fn put_leaf(out: &mut Buf, leaf: Leaf, word: u64) -> Result<(), Memory>
     requires { leaf.width ≤ 8 }

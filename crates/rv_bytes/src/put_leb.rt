@@ -7,7 +7,7 @@ use rv_io::{Buf, Memory};
 
 /// Appends an unsigned LEB128 number in as few bytes as there can be (DWARF 5, 7.6).
 ///
-/// After want of memory the buffer is as it was.
+/// Out of memory, the buffer is as it was.
 pub fn put_uleb(out: &mut Buf, n: u64) -> Result<(), Memory>
     ensures appended { OnOk result (AppendsShortest uleb n out.old out.new) }
     ensures same { OnErr result (out.new ≡ out.old) }
@@ -17,7 +17,7 @@ pub fn put_uleb(out: &mut Buf, n: u64) -> Result<(), Memory>
 
 /// Appends a signed LEB128 number in as few bytes as there can be (DWARF 5, 7.6).
 ///
-/// After want of memory the buffer is as it was.
+/// Out of memory, the buffer is as it was.
 pub fn put_sleb(out: &mut Buf, n: i64) -> Result<(), Memory>
     ensures appended { OnOk result (AppendsShortest sleb n out.old out.new) }
     ensures same { OnErr result (out.new ≡ out.old) }
@@ -57,7 +57,7 @@ fn group_count(n: u64) -> usize
     if n < 128 { 1 } else { 1 + group_count(n / 128) }
 }
 
-/// Appends `more` groups and one, the lowest first. After want of memory the buffer is as it was.
+/// Appends `more` groups and one, the lowest first. Out of memory, the buffer is as it was.
 fn put_groups(out: &mut Buf, n: u128, more: usize) -> Result<(), Memory>
     requires count { more < 10 }
     requires fits { n < 128 ^ (more + 1) }

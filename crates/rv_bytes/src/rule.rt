@@ -11,3 +11,9 @@ pub const NO_ZERO: u8 = 12;
 
 /// The kind of a numeric leaf is unknown.
 pub const UNKNOWN_LEAF: u8 = 13;
+
+/// The bytes before a zero byte are no text: they aren't UTF-8, or are more than 65,535.
+pub const NO_TEXT: u8 = 14;
+
+/// An offset or an index leads outside its section.
+pub const OUTSIDE: u8 = 31;

@@ -1,3 +1,4 @@
 pub mod FilesByName
 pub mod Fronts
 pub mod Steps
+pub mod Digits

@@ -1,5 +1,5 @@
 -- A sink in memory, and how its puts end.
-use Rattle.std.specs.Prelude.{◌≡◌, ℕ, ◌-◌, ◌==◌, nat_le, min, Bool, true, false, List, [], ◌∷◌, ◌++◌, length, take, Option, Some, None, Result, Ok, Err, if◌then◌else◌}
+use Rattle.std.specs.Prelude.{◌≡◌, ℕ, ◌-◌, ◌==◌, nat_le, min, true, List, [], ◌∷◌, ◌++◌, length, take, Option, Some, None, Result, Ok, Err, if◌then◌else◌}
 use Rattle.rv_io.specs.Faults.{next}
 use Rattle.rv_io.specs.declared.mem_sink.Fail.{Fail}
 use Rattle.rv_io.specs.declared.mem_sink.MemSink.{MemSink}

@@ -8,7 +8,7 @@ use std::marker::Model;
 /// A buffer of bytes that grows at its end, and that contracts see as the list of its bytes.
 #[derive(Debug, Drop)]
 pub struct Buf {
-    bytes: Vec<u8>,
+    pub(crate) bytes: Vec<u8>,
 }
 
 impl Model for Buf {

@@ -33,7 +33,7 @@ impl From<memory::Memory> for FetchErr {
 pub trait Inputs {
     /// The files, where they are told.
     ghost files: { Self → Option Files };
-    /// How often a read has failed. It begins at 0, and stands still at 2^64 - 1.
+    /// How often a read has failed. It begins at 0, and saturates at 2^64 - 1.
     ghost faults: { Self → ℕ };
 
     /// Appends the first `most` bytes of the file, or all where it is shorter.

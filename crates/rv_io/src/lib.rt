@@ -8,6 +8,7 @@ mod list;
 mod mem_inputs;
 mod mem_sink;
 mod memory;
+mod numbers;
 mod real;
 mod sink;
 mod text;
@@ -22,6 +23,3 @@ pub use memory::Memory;
 pub use real::{RealInputs, RealSink};
 pub use sink::{Failed, Sink};
 pub use text::Text;
-
-#[cfg(test)]
-mod tests;

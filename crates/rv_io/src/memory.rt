@@ -1,4 +1,4 @@
-//! Want of memory, as a value.
+//! Out of memory, as a value.
 use std::alloc::{AllocError, AllocFailed};
 use thiserror::Error;
 

@@ -31,13 +31,13 @@ impl<R: Files> Inputs for RealInputs<R> {
     ghost faults = { λ s. s.faults };
 
     fn fetch(&mut self, name: &str, most: usize, into: &mut Buf) -> Result<(), FetchErr> {
-        let mut file = match fs::open(&self.rt, name) {
+        let file = match fs::open(&self.rt, name) {
             Ok(file) => file,
             Err(e) if e.kind() == ErrorKind::OutOfMemory => return Err(FetchErr::Memory),
             Err(_) => return Err(FetchErr::NoFile),
         };
         let start = into.as_bytes().len();
-        match read_front(&mut file, most, into) {
+        match read_front(file, most, into) {
             Ok(()) => Ok(()),
             Err(e) => {
                 into.truncate(start);
@@ -51,25 +51,15 @@ impl<R: Files> Inputs for RealInputs<R> {
 }
 
 /// Appends the first `most` bytes that the reader gives, or all where it ends before.
-fn read_front<F: Read>(file: &mut F, most: usize, into: &mut Buf) -> Result<(), FetchErr>
+fn read_front<F: Read + Drop>(file: F, most: usize, into: &mut Buf) -> Result<(), FetchErr>
     ensures kept { take (length into.old) into.new ≡ into.old }
     ensures causes { IfErr result (λ e. e ≢ NoFile) }
 {
-    let mut buf = [0u8; 4096];
-    let mut left = most;
-    while left > 0 {
-        let room = left.min(4096);
-        let count = match file.read(&mut buf[..room]) {
-            Ok(count) => count,
-            Err(_) => return Err(FetchErr::Failed),
-        };
-        if count == 0 {
-            break;
-        }
-        into.put(&buf[..count])?;
-        left -= count;
+    match file.take(most as u64).read_to_end(&mut into.bytes) {
+        Ok(_) => Ok(()),
+        Err(e) if e.kind() == ErrorKind::OutOfMemory => Err(FetchErr::Memory),
+        Err(_) => Err(FetchErr::Failed),
     }
-    Ok(())
 }
 
 /// A writer of the system, as standard output.

@@ -14,7 +14,7 @@ pub struct Failed;
 pub trait Sink {
     /// The bytes that were taken, where they are told.
     ghost written: { Self → Option (List ℕ) };
-    /// How often a put has failed. It begins at 0, and stands still at 2^64 - 1.
+    /// How often a put has failed. It begins at 0, and saturates at 2^64 - 1.
     ghost faults: { Self → ℕ };
 
     /// Appends the bytes, or fails after a front of them.

@@ -1,4 +1,4 @@
--- A run behind others.
+-- A run after others.
 use Rattle.std.proofs.Common.{◌≡◌, ◌≢◌, ◌∙◌, sym, ap, refl, ℕ, zero, suc, ◌+◌, ◌-◌, ◌<◌, ◌≤◌, ◌^◌, ◌&&◌, ◌==◌, Bool, true, false, cond, List, [], ◌∷◌, ◌++◌, length, None, nat_le, nat_lt, arith, ⊎_elim, length-append}
 use Rattle.std.proofs.lemmas.Bool.{cases_lt}
 use Rattle.std.proofs.lemmas.Option.{slice_get-get_or}
@@ -26,7 +26,7 @@ ends_by at from (run ∷ runs) h none =
     (λ l. l) (cases_lt at (end_of run)) in
     (end, ends_by at (end_of run + 1) runs h.3 (λ a l. sym (behind run a (slice_get run.bytes (a - run.at)) (byte_at runs a) (omega (arith, end))) ∙ none a l))
 
--- runs with a run behind them still rise
+-- runs with a run after them still rise
 pub with_run_rises : (from : ℕ) (runs : List Run) (new : Run) → Rise 1 from runs → EndBy new.at runs → from ≤ new.at → 0 < length new.bytes → end_of new ≤ 2 ^ 64 → Rise 1 from (with_run runs new)
 with_run_rises from [] new h e f some end = (f, some, end, tt)
 with_run_rises from (run ∷ []) new h e f some end =

@@ -25,7 +25,7 @@ use Rattle.snapshot_file.proofs.StepFaults.{OverlapsAt, LineTells, step_tells}
 use Rattle.snapshot_file.proofs.Reached.{Reached, start_reached, next_reached}
 use Rattle.snapshot_file.proofs.FileFaults.{lines_lack, lines_again, same_err}
 
--- the reading behind these lines, which say what stands before
+-- the reading after these lines, which say what stands before
 record Reaches (ls : List (List ℕ)) (front : Front) : Type 0 where
   pub reading : Reading
   pub reached : Reached ls reading

@@ -34,7 +34,7 @@ lines_again (l ∷ ls) h = line_cut l (flat_map with_end ls) (All-head (Lacks 10
 pub lines_lack : (bytes : List ℕ) (ls pieces : List (List ℕ)) → lines bytes ≡ ls ++ pieces → All (Lacks 10) ls
 lines_lack bytes ls pieces e = front_lacks 10 ls pieces (subst (All (Lacks 10)) e (parts_lack 10 bytes))
 
--- where the file might end behind these lines, they spell what was read
+-- where the file might end after these lines, they spell what was read
 spells_so_far : (ls : List (List ℕ)) (r : Reading) → All (Lacks 10) ls → Reached ls r → at_end r.stage r ≡ Ok r.snapshot → Spells (flat_map with_end ls) r.snapshot
 spells_so_far ls r lack h e = read_spells (flat_map with_end ls) r.snapshot (ap (steps start) (lines_again ls lack) ∙ h.same ([] ∷ []) (omega arith) ∙ e)
 
@@ -90,7 +90,7 @@ end_fault bytes text r e true empty s h = missing_at r.stage bytes text r e s (n
 end_fault bytes text r e false some s h =
     subst (λ x. IsReading bytes (Err x)) (same_err (faults.BadLine r.line 1) e h) (record { front = front_of r.stage r.snapshot; text = text; more = []; stands = s; broken = endless refl (not_nil text some) refl })
 
--- the first line at fault, behind those that were read
+-- the first invalid line, after those that were read
 fault_behind : (bytes : List ℕ) (ls pieces : List (List ℕ)) (r : Reading) (e : SnapErr) → lines bytes ≡ ls ++ pieces → 0 < length pieces → Reached ls r → steps r pieces ≡ Err e → IsReading bytes (Err e)
 fault_behind bytes ls [] r e c l h f = absurd (omega arith)
 fault_behind bytes ls (text ∷ []) r e c l h f = end_fault bytes text r e (length text == 0) refl (stands_here bytes ls text [] r c h) f

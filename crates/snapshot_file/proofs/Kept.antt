@@ -17,7 +17,7 @@ use Rattle.snapshot_file.proofs.Segments.{with_some, some_runs}
 use Rattle.snapshot_file.proofs.ReadLines.{SaysMemory, SaysRegister, line_words, version_says, pc_says, cfa_says, last_says, later_says}
 use Rattle.snapshot_file.proofs.Stages.{Holds, Keeps, IsLast, number_low, above_tells}
 
--- what holds behind the line, and its number
+-- what holds after the line, and its number
 abbrev pub Kept : Reading → Reading → Type 0
 Kept r t = Keeps t × (t.line ≡ after r.line)
 

@@ -70,7 +70,7 @@ last_span buffer spans a m d run h some l p e =
     let is = some_begun buffer spans a (m - 1) d h (omega arith) (begun_at spans a m (m - 1 + 1) (omega arith) p) in
     rw e is
 
--- all that stands behind a place, and nothing
+-- all that stands after a place, and nothing
 pub all_behind : (n : ℕ) (xs : List ℕ) → take (length xs - n) (drop n xs) ≡ drop n xs
 all_behind n xs = ap (λ k. take k (drop n xs)) (sym (length-drop n xs)) ∙ take-length (drop n xs)
 

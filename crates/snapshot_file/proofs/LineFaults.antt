@@ -97,7 +97,7 @@ overlap_of s line more u w below =
       below = below.below;
     }
 
--- the first word with those behind it, by its test
+-- the first word with those after it, by its test
 pub begins : (line word other : List ℕ) (more : List (List ℕ)) → words line ≡ word ∷ more → bytes_eq word other ≡ true → words line ≡ other ∷ more
 begins line w other more h t = h ∙ ap (λ x. x ∷ more) ((bytes_eq-Decides w other).0 t)
 

@@ -1,4 +1,4 @@
--- What the words behind `mem` tell of the rules that they break.
+-- What the words after `mem` tell of the rules that they break.
 use Rattle.std.proofs.Common.{◌≡◌, ◌∙◌, sym, ap, subst, refl, ℕ, ◌+◌, ◌<◌, ◌≤◌, ◌^◌, cond, List, [], ◌∷◌, length, arith, Some, Result, Ok, Err, nat_lt, lit≤}
 use Rattle.std.proofs.lemmas.Bool.{ltb-false, ltb-true}
 use Rattle.std.proofs.lemmas.Option.{same_Some}

@@ -90,14 +90,14 @@ ascii_behind : (word : List ℕ) → IsAscii word → IsAscii (32 ∷ word)
 ascii_behind word k zero = lit< tt
 ascii_behind word k (suc i) = k i
 
--- a space and a plain word behind a line that is ASCII
+-- a space and a plain word after a line that is ASCII
 pub ascii_more : (front word : List ℕ) → IsAscii front → IsAscii word → IsAscii (front ++ 32 ∷ word)
 ascii_more front word h k = IsAscii-append front (32 ∷ word) h (ascii_behind word k)
 
 lacks_append : (c : ℕ) (xs ys : List ℕ) → Lacks c xs → Lacks c ys → Lacks c (xs ++ ys)
 lacks_append c xs ys h k = All-append (λ b. b ≢ c) xs ys h k
 
--- a space and a plain word behind a line without an LF
+-- a space and a plain word after a line without an LF
 pub lf_more : (front word : List ℕ) → Lacks 10 front → Lacks 10 word → Lacks 10 (front ++ 32 ∷ word)
 lf_more front word h k = lacks_append 10 front (32 ∷ word) h (All-cons (λ b. b ≢ 10) 32 word (λ e. omega arith) k)
 

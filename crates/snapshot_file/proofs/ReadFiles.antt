@@ -53,7 +53,7 @@ pub record Memories (r : Reading) (pieces : List (List ℕ)) (s : Snapshot) : Ty
   pub segments_rise : Rise 0 (last_end r.snapshot.mem) segments
   pub snapshot : s ≡ record r.snapshot { mem = put_all r.snapshot.mem segments }
 
--- the file may end behind the line
+-- the file may end after the line
 abbrev Ends : Reading → Type 0
 Ends r = at_end r.stage r ≡ Ok r.snapshot
 
@@ -126,7 +126,7 @@ one_register r t line more s first rest =
       snapshot = rest.snapshot ∙ ap (λ (q : Reading). record { pc = q.snapshot.pc; cfa = q.snapshot.cfa; regs = with_registers q.snapshot.regs rest.registers; mem = put_all q.snapshot.mem rest.segments }) first.next;
     }
 
--- a line behind which registers may stand
+-- a line after which registers may stand
 abbrev TakesRegisters : Reading → Type 0
 TakesRegisters r = (first : List ℕ) (more : List (List ℕ)) → line_at r.stage r first more ≡ later_line r first more
 
@@ -148,7 +148,7 @@ rest_says r (line ∷ next ∷ more) s h k e =
     no_registers_first r (line ∷ next ∷ more) s (one_memory r t line (next ∷ more) s says (memories_say t (next ∷ more) s stage e2)))
     (later_says r line first ws t w (sym (h first ws) ∙ e3))))
 
--- what stands behind the line of `pc`
+-- what stands after the line of `pc`
 pub record Third (r : Reading) (pieces : List (List ℕ)) (s : Snapshot) : Type 0 where
   pub cfa : Option ℕ
   pub cfa_fits : IfSome cfa (λ n. n < 2 ^ 64)
@@ -221,7 +221,7 @@ joined (l ∷ m ∷ ls) = ap (λ t. l ++ 10 ∷ t) (joined (m ∷ ls)) ∙ sym (
 text_of : (bytes : List ℕ) (ls : List (List ℕ)) → lines bytes ≡ ls ++ [] ∷ [] → bytes ≡ flat_map with_end ls
 text_of bytes ls e = sym (join_with_byte-slice_split 10 bytes) ∙ ap (join_with_byte 10) e ∙ joined ls
 
--- the last, empty piece goes behind all lines
+-- the last, empty piece goes after all lines
 pub regroup : (cs rs ms : List (List ℕ)) → cs ++ (rs ++ (ms ++ [] ∷ [])) ≡ (cs ++ (rs ++ ms)) ++ [] ∷ []
 regroup cs rs ms = ap (λ t. cs ++ t) (sym (append_assoc rs ms ([] ∷ []))) ∙ sym (append_assoc cs (rs ++ ms) ([] ∷ []))
 

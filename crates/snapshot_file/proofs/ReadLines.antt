@@ -59,7 +59,7 @@ version_says r line first more s w e1 =
     (whole line (codes "rdbg-snapshot" ∷ codes "1" ∷ []) parts, sym (same_ok _ s e4)))
     (λ no e4. absurd (cc)))) (λ no e2. absurd (cc))
 
--- the one number behind the first word
+-- the one number after the first word
 number_says : (line : ℕ) (more : List (List ℕ)) (n : ℕ) → number_of_line line more ≡ Ok n → (n < 2 ^ 64) × (more ≡ hex_text n ∷ [])
 number_says line more n e =
     bind_then (or_bad line 3 (only more)) _ n e (λ digits d e2.
@@ -147,7 +147,7 @@ pairs_then line (Ok []) bytes e = absurd (cc)
 pairs_then line (Ok (b ∷ bs)) bytes e = let same = same_ok (b ∷ bs) bytes e in (ap Ok same, omega (arith, ap length (sym same)))
 pairs_then line (Err x) bytes e = absurd (cc)
 
--- what a line of memory says: a segment behind those before it
+-- what a line of memory says: a segment after those before it
 pub record SaysMemory (r : Reading) (line : List ℕ) (s : Reading) : Type 0 where
   pub segment : Run
   pub is : IsMemoryLine line segment

@@ -1,8 +1,10 @@
--- What the words behind `reg` tell of the rules that they break.
+-- What the words after `reg` tell of the rules that they break.
 use Rattle.std.proofs.Common.{◌≡◌, ◌∙◌, sym, ap, subst, refl, ℕ, ◌*◌, ◌≤◌, ◌^◌, Bool, true, false, cond, List, arith, Option, Some, None, Result, Ok}
 use Rattle.std.proofs.lemmas.Option.{same_Some}
 use Rattle.readers.specs.Lines.{two}
-use Rattle.readers.specs.Hex.{wide_hex_of, is_hex_word}
+use Rattle.readers.specs.Hex.{wide_hex_of, is_hex_word, IsHexNumber}
+use Rattle.readers.proofs.HexNumbers.{number_decides}
+use Rattle.std.proofs.lemmas.Bool.Decides.{not_from_Decides}
 use Rattle.readers.proofs.HexWords.{wide_some, wide_spelling_of}
 use Rattle.snapshot_file.specs.declared.fault.SnapErr.{SnapErr}
 use Rattle.snapshot_file.specs.declared.registers.Reg.{Reg}
@@ -16,7 +18,7 @@ use Rattle.snapshot_file.proofs.RegisterLists.{word_of, named}
 
 -- the number is well spelled: it fits the register, or the register is unknown
 abbrev IsWellSpelled : List ℕ → List ℕ → Type 0
-IsWellSpelled name word = ((reg : Reg) → name ≡ name_of reg → IsNumber (2 ^ (8 * width_of reg)) word) × (IsUnknown name → is_hex_word word ≡ true)
+IsWellSpelled name word = ((reg : Reg) → name ≡ name_of reg → IsNumber (2 ^ (8 * width_of reg)) word) × (IsUnknown name → IsHexNumber word)
 
 same_pair : (more : List (List ℕ)) (a b : List ℕ × List ℕ) → two more ≡ Some a → two more ≡ Some b → a ≡ b
 same_pair more a b e k = same_Some a b (sym e ∙ k)
@@ -40,10 +42,10 @@ not_unfit name word both reg e well is wrong =
     let here : IsWellSpelled name word = subst (λ (p : List ℕ × List ℕ). IsWellSpelled p.0 p.1) (sym e) well in
     wrong (here.0 reg is)
 
-not_misspelled : (name word : List ℕ) (both : List ℕ × List ℕ) → (name, word) ≡ both → IsWellSpelled both.0 both.1 → IsUnknown name → is_hex_word word ≡ false → ⊥
+not_misspelled : (name word : List ℕ) (both : List ℕ × List ℕ) → (name, word) ≡ both → IsWellSpelled both.0 both.1 → IsUnknown name → (IsHexNumber word → ⊥) → ⊥
 not_misspelled name word both e well un wrong =
     let here : IsWellSpelled name word = subst (λ (p : List ℕ × List ℕ). IsWellSpelled p.0 p.1) (sym e) well in
-    let yes = here.1 un in cc
+    wrong (here.1 un)
 
 last : (regs : List (Option (List ℕ))) (more : List (List ℕ)) (both : List ℕ × List ℕ) (n : ℕ) → two more ≡ Some both → IsWellSpelled both.0 both.1 → BreaksRegister regs more n → 5 ≤ n
 last regs more both n k well (register_count e r) = absurd (cc)
@@ -86,7 +88,7 @@ well_known name word reg n e f =
     (λ other k. subst (λ r. IsNumber (2 ^ (8 * width_of r)) word) (one_register reg other (sym is ∙ k)) (fit reg word n f), λ un. absurd (un reg is))
 
 well_unknown : (name word : List ℕ) → reg_of name ≡ None → is_hex_word word ≡ true → IsWellSpelled name word
-well_unknown name word e t = (λ reg is. absurd (unknown_name name e reg is), λ un. t)
+well_unknown name word e t = (λ reg is. absurd (unknown_name name e reg is), λ un. (number_decides word).0 t)
 
 module _ (B : ℕ → Type 0) (O : Type 0) (line : ℕ) where
   beside_unknown : {Y : Type 0} (b : Bool) (f : Reg × ℕ → Result Y SnapErr) → (b ≡ true → IsLowest B 5) → (b ≡ false → IsLowest B 4) → Tells B O line (cond b (bad line 5) (bad line 4) >>= f)
@@ -111,7 +113,7 @@ register_tells O r regs more above not_above =
     (λ e. (register_count e refl, register_low regs more))
     (λ both e. value_tells B O r.line (reg_of both.0) both.1 (λ value. cond (is_above r.stage value.0) (Ok (after_register r value.0 value.1)) (bad r.line 5))
     (λ none t. (unknown both.0 both.1 e (unknown_name both.0 none) refl, λ n b. last regs more both n e (well_unknown both.0 both.1 none t) b))
-    (λ none t. (misspelled both.0 both.1 e (unknown_name both.0 none) t refl, λ n b. next regs more both n e b))
+    (λ none t. (misspelled both.0 both.1 e (unknown_name both.0 none) (not_from_Decides (is_hex_word both.1) (number_decides both.1) t) refl, λ n b. next regs more both n e b))
     (λ reg some none. (unfit both.0 both.1 reg e (word_of both.0 reg some) (no_fit reg both.1 none) refl, λ n b. next regs more both n e b))
     (λ reg k some fits. cond_tells B O r.line (is_above r.stage reg) (Ok (after_register r reg k)) (bad r.line 5)
     (λ t n b. fine regs more both reg n e (well_known both.0 both.1 reg k some fits) (word_of both.0 reg some) (above reg t) b)

@@ -61,7 +61,7 @@ at_run gap from (suc i) a d (run ∷ runs) h l low high =
     behind run a (slice_get run.bytes (a - run.at)) (byte_at runs a) (omega arith)
     ∙ at_run gap (end_of run + gap) i a d runs h.3 (omega arith) low (λ p. high (omega arith))
 
--- each run ends behind the first address, and below the next run
+-- each run ends after the first address, and below the next run
 pub gap_after : (gap from i : ℕ) (d : Run) (runs : List Run) → Rise gap from runs → suc i < length runs → end_of (get_or runs i d) + gap ≤ (get_or runs (suc i) d).at
 gap_after gap from i d [] h l = absurd (omega arith)
 gap_after gap from zero d (run ∷ runs) h l = begins gap (end_of run + gap) 0 d runs h.3 (omega arith)

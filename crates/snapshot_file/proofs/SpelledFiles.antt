@@ -77,7 +77,7 @@ memory_lacks_lf line g m l =
     let rest = lf_more (hex_text g.at) m.digits (plain_lacks_lf (hex_text g.at) (plain_hex g.at l)) (plain_lacks_lf m.digits (plain_decoded m.digits g.bytes m.bytes)) in
     subst (Lacks 10) (sym m.text) (lf_more (codes "mem") (hex_text g.at ++ 32 ∷ m.digits) (plain_lacks_lf (codes "mem") mem_plain) rest)
 
--- the reading behind a segment
+-- the reading after a segment
 abbrev behind : Reading → Run → Reading
 behind r g = record { stage = stages.Memory; line = after r.line; snapshot = record r.snapshot { mem = with_bytes r.snapshot.mem g.at g.bytes } }
 
@@ -88,7 +88,7 @@ segment_ok r g later end =
     ap (λ b. cond b (bad r.line 7) (cond (nat_lt g.at (last_end r.snapshot.mem)) over good)) (le-ltb (2 ^ 64) (end_of g) end)
     ∙ ap (λ b. cond b over good) (le-ltb g.at (last_end r.snapshot.mem) later)
 
--- a line behind which the file may end, and memory may stand
+-- a line after which the file may end, and memory may stand
 abbrev TakesMemory : Stage → Type 0
 TakesMemory stage = ((r : Reading) (more : List (List ℕ)) → line_at stage r (codes "mem") more ≡ memory_line r more) × ((r : Reading) → at_end stage r ≡ Ok r.snapshot)
 
@@ -114,7 +114,7 @@ memories_step r (l ∷ ls) (g ∷ gs) h z k =
     ∙ bind_ok (step r l) (λ s. steps s rest) (behind r g) (Ok (record r.snapshot { mem = put_all r.snapshot.mem (g ∷ gs) })) (memory_steps r l g h z.0 k.0 k.1 k.2)
     (memories_step (behind r g) ls gs (λ q m. refl, λ q. refl) z.1 (subst (λ n. Rise 0 n gs) end k.3))
 
--- a line behind which registers may stand
+-- a line after which registers may stand
 abbrev TakesRegister : Stage → Type 0
 TakesRegister stage = (r : Reading) (more : List (List ℕ)) → line_at stage r (codes "reg") more ≡ register_line r more
 

@@ -18,7 +18,7 @@ abbrev pub OverlapsAt : Front → List ℕ → Type 0
 OverlapsAt (behind s) line = Overlaps s line
 OverlapsAt front line = ⊥
 
--- what the step tells, where it has this line behind this front
+-- what the step tells, where it has this line after this front
 abbrev pub LineTells : Front → List ℕ → ℕ → Result Reading SnapErr → Type 0
 LineTells front line n res = Tells (Breaks front line) (OverlapsAt front line) n res
 

@@ -9,7 +9,7 @@ use Rattle.snapshot_file.specs.declared.snapshot.Reading.{Reading}
 use Rattle.snapshot_file.specs.declared.snapshot.Snapshot.{Snapshot}
 use Rattle.snapshot_file.specs.Reading.{◌>>=◌, step, steps, Gives, Fails}
 
--- a line with pieces behind it
+-- a line with pieces after it
 pub steps_more : (r : Reading) (line : List ℕ) (more : List (List ℕ)) → 0 < length more → steps r (line ∷ more) ≡ (step r line >>= λ s. steps s more)
 steps_more r line [] h = absurd (omega arith)
 steps_more r line (next ∷ more) h = refl

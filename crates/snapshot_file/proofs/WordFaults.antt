@@ -1,4 +1,4 @@
--- What the words behind the first one tell of the rules that they break.
+-- What the words after the first one tell of the rules that they break.
 use Rattle.std.proofs.Common.{◌≡◌, ◌≢◌, ◌∙◌, sym, subst, refl, ℕ, ◌≤◌, ◌^◌, false, cond, List, arith, Some, None, Ok, codes}
 use Rattle.std.proofs.lemmas.Slice.Eq.{bytes_eq-Decides}
 use Rattle.std.proofs.lemmas.Option.{same_Some}

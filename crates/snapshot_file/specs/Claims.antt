@@ -14,7 +14,7 @@ IsBefore second before = before ≡ codes "rdbg-snapshot 1" ∷ []
 IsBefore (behind snapshot) before = Spells (flat_map with_end before) snapshot
 
 -- The file, cut at each LF, has these lines before, then this text, then what follows it. Lines are counted from 1, and the
--- number stands still at its type's end.
+-- number saturates at its type's end.
 pub record Stands (bytes : List ℕ) (front : Front) (text : List ℕ) (more : List (List ℕ)) (line : ℕ) : Type 0 where
   pub before : List (List ℕ)
   pub cut : lines bytes ≡ before ++ text ∷ more
@@ -32,7 +32,7 @@ pub data IsBroken (front : Front) (text : List ℕ) (more : List (List ℕ)) (ru
   endless : more ≡ [] → text ≢ [] → rule ≡ 1 → IsBroken front text more rule
   missing : more ≡ [] → text ≡ [] → MustGoOn front → rule ≡ 2 → IsBroken front text more rule
 
--- the first line that is at fault, and its lowest rule
+-- the first line that is invalid, and its lowest rule
 pub record IsFault (bytes : List ℕ) (line rule : ℕ) : Type 0 where
   pub front : Front
   pub text : List ℕ
@@ -40,7 +40,7 @@ pub record IsFault (bytes : List ℕ) (line rule : ℕ) : Type 0 where
   pub stands : Stands bytes front text more line
   pub broken : IsBroken front text more rule
 
--- the first line of memory that begins below the end of the segment before, where no line up to it is at fault
+-- the first line of memory that begins below the end of the segment before, where no line up to it is invalid
 pub record IsOverlap (bytes : List ℕ) (line : ℕ) : Type 0 where
   pub snapshot : Snapshot
   pub text : List ℕ

@@ -3,7 +3,7 @@ use Rattle.std.specs.Prelude.{◌≡◌, ◌≢◌, ℕ, ◌*◌, ◌^◌, ◌<�
 use Rattle.std.specs.Str.{is_utf8}
 use Rattle.hex.specs.Hex.{decode_of}
 use Rattle.readers.specs.Lines.{words, only, two}
-use Rattle.readers.specs.Hex.{hex_text, is_hex_word}
+use Rattle.readers.specs.Hex.{hex_text, IsHexNumber}
 use Rattle.snapshot_file.specs.declared.snapshot.Snapshot.{Snapshot}
 use Rattle.snapshot_file.specs.declared.registers.Reg.{Reg}
 use Rattle.snapshot_file.specs.Registers.{number_of, width_of, name_of, no_registers, register}
@@ -42,7 +42,7 @@ first_word Memory = codes "mem"
 abbrev pub IsBare : Snapshot → Type 0
 IsBare snapshot = (snapshot.cfa ≡ None) × (snapshot.regs ≡ no_registers) × (snapshot.mem ≡ [])
 
--- the lines that may stand here: `cfa` right behind `pc`, and registers before any memory
+-- the lines that may stand here: `cfa` right after `pc`, and registers before any memory
 abbrev pub MayStand : Front → Kind → Type 0
 MayStand first Version = Unit {0}
 MayStand second Pc = Unit {0}
@@ -63,29 +63,29 @@ IsUnknown name = (reg : Reg) → name ≢ name_of reg
 abbrev pub IsPassed : List (Option (List ℕ)) → Reg → Type 0
 IsPassed regs reg = (other : Reg) × ((register regs other ≢ None) × (number_of reg ≤ number_of other))
 
--- behind `rdbg-snapshot` stands `1` alone
+-- after `rdbg-snapshot` stands `1` alone
 pub data BreaksVersion (more : List (List ℕ)) (rule : ℕ) : Type 0 where
   version_count : only more ≡ None → rule ≡ 3 → BreaksVersion more rule
   other_version : (word : List ℕ) → only more ≡ Some word → word ≢ codes "1" → rule ≡ 4 → BreaksVersion more rule
 
--- behind `pc` and `cfa` stands a number below 2 ^ 64 alone
+-- after `pc` and `cfa` stands a number below 2 ^ 64 alone
 pub data BreaksNumber (more : List (List ℕ)) (rule : ℕ) : Type 0 where
   number_count : only more ≡ None → rule ≡ 3 → BreaksNumber more rule
   no_number : (word : List ℕ) → only more ≡ Some word → ¬ IsNumber (2 ^ 64) word → rule ≡ 4 → BreaksNumber more rule
 
--- Behind `reg` stand two words: a register above those before, and a number that fits it. Beside an unknown register a number
+-- After `reg` stand two words: a register above those before, and a number that fits it. Beside an unknown register a number
 -- of any size is well spelled.
 pub data BreaksRegister (regs : List (Option (List ℕ))) (more : List (List ℕ)) (rule : ℕ) : Type 0 where
   register_count : two more ≡ None → rule ≡ 3 → BreaksRegister regs more rule
   unfit : (name word : List ℕ) (reg : Reg) → two more ≡ Some (name, word) → name ≡ name_of reg
       → ¬ IsNumber (2 ^ (8 * width_of reg)) word → rule ≡ 4 → BreaksRegister regs more rule
   misspelled : (name word : List ℕ) → two more ≡ Some (name, word) → IsUnknown name
-      → is_hex_word word ≡ false → rule ≡ 4 → BreaksRegister regs more rule
+      → ¬ IsHexNumber word → rule ≡ 4 → BreaksRegister regs more rule
   unknown : (name word : List ℕ) → two more ≡ Some (name, word) → IsUnknown name → rule ≡ 5 → BreaksRegister regs more rule
   passed : (name word : List ℕ) (reg : Reg) → two more ≡ Some (name, word) → name ≡ name_of reg
       → IsPassed regs reg → rule ≡ 5 → BreaksRegister regs more rule
 
--- Behind `mem` stand two words: an address below 2 ^ 64, and pairs of digits for one or more bytes, which end at 2 ^ 64 or
+-- After `mem` stand two words: an address below 2 ^ 64, and pairs of digits for one or more bytes, which end at 2 ^ 64 or
 -- below.
 pub data BreaksMemory (more : List (List ℕ)) (rule : ℕ) : Type 0 where
   memory_count : two more ≡ None → rule ≡ 3 → BreaksMemory more rule
@@ -96,7 +96,7 @@ pub data BreaksMemory (more : List (List ℕ)) (rule : ℕ) : Type 0 where
   past_end : (segment : Run) (digits : List ℕ) → two more ≡ Some (hex_text segment.at, digits) → decode_of digits ≡ Ok segment.bytes
       → segment.at < 2 ^ 64 → 2 ^ 64 < end_of segment → rule ≡ 7 → BreaksMemory more rule
 
--- the words behind the first break the rule
+-- the words after the first break the rule
 abbrev pub BreaksWords : Front → Kind → List (List ℕ) → ℕ → Type 0
 BreaksWords front Version more rule = BreaksVersion more rule
 BreaksWords front Pc more rule = BreaksNumber more rule
@@ -104,7 +104,7 @@ BreaksWords front Cfa more rule = BreaksNumber more rule
 BreaksWords front Register more rule = BreaksRegister (registers_before front) more rule
 BreaksWords front Memory more rule = BreaksMemory more rule
 
--- The line breaks the rule: it is not UTF-8, its first word is none that may stand here, or it may, and the words behind it
+-- The line breaks the rule: it is not UTF-8, its first word is none that may stand here, or it may, and the words after it
 -- break the rule.
 pub data Breaks (front : Front) (line : List ℕ) (rule : ℕ) : Type 0 where
   no_text : is_utf8 line ≡ false → rule ≡ 1 → Breaks front line rule

@@ -39,7 +39,7 @@ GivesBy view (Err e) read = Fails e read
 abbrev pub bad : {X : Type 0} → ℕ → ℕ → Result X SnapErr
 bad line rule = Err (faults.BadLine line rule)
 
--- a line's number stands still at its type's end
+-- a line's number saturates at its type's end
 abbrev pub after : ℕ → ℕ
 after line = min (line + 1) (2 ^ 32 - 1)
 
@@ -47,7 +47,7 @@ abbrev pub or_bad : {X : Type 0} → ℕ → ℕ → Option X → Result X SnapE
 or_bad line rule (Some x) = Ok x
 or_bad line rule None = bad line rule
 
--- the words behind the first one
+-- the words after the first one
 abbrev pub behind : Option (List ℕ) → List (List ℕ)
 behind None = []
 behind (Some rest) = words rest
@@ -59,7 +59,7 @@ version_line r first more = if bytes_eq first (codes "rdbg-snapshot") then (do
   if bytes_eq version (codes "1") then Ok (record r { stage = stages.Version; line = after r.line }) else bad r.line 4)
     else bad r.line 2
 
--- the one number behind the first word
+-- the one number after the first word
 abbrev pub number_of_line : ℕ → List (List ℕ) → Result ℕ SnapErr
 number_of_line line more = do
   word ← or_bad line 3 (only more)
@@ -136,7 +136,7 @@ last_line r first more = if bytes_eq first (codes "mem") then memory_line r more
 abbrev pub later_line : Reading → List ℕ → List (List ℕ) → Result Reading SnapErr
 later_line r first more = if bytes_eq first (codes "reg") then register_line r more else last_line r first more
 
--- a line behind that of `pc`
+-- a line after that of `pc`
 abbrev pub third_line : Reading → List ℕ → List (List ℕ) → Result Reading SnapErr
 third_line r first more = if bytes_eq first (codes "cfa") then cfa_line r more else later_line r first more
 

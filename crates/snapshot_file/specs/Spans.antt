@@ -27,7 +27,7 @@ longer [] n = []
 longer (span ∷ []) n = record { at = span.at; start = span.start; len = span.len + n } ∷ []
 longer (span ∷ next ∷ spans) n = span ∷ longer (next ∷ spans) n
 
--- a run, behind runs that end at or below it: it is joined to the last one where they abut
+-- a run, after runs that end at or below it: it is joined to the last one where they abut
 abbrev pub with_run : List Run → Run → List Run
 with_run [] new = new ∷ []
 with_run (run ∷ []) new = if end_of run == new.at then record { at = run.at; bytes = run.bytes ++ new.bytes } ∷ [] else run ∷ new ∷ []

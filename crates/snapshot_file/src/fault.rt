@@ -4,7 +4,7 @@ ghost use Rattle.std.specs.Prelude.{◌≡◌};
 use rv_io::Memory;
 use thiserror::Error;
 
-/// What is wrong with a snapshot file, or want of memory. Lines are counted from 1, and the count stands still at its
+/// What is wrong with a snapshot file, or that memory ran out. Lines are counted from 1, and the count saturates at its
 /// type's end.
 #[derive(Debug, Drop, Error)]
 pub enum SnapErr {

@@ -1,4 +1,4 @@
-//! Laws of memory and of snapshot files, each the contract of a call that does nothing.
+//! Theorems on memory and of snapshot files, each the contract of a call that does nothing.
 ghost use Rattle.snapshot_file.specs.Snapshots.{OneSnapshot, OneMemory};
 ghost use Rattle.snapshot_file.specs.Claims.{HaveReading, HaveNoFault, HaveOneFault};
 
@@ -17,7 +17,7 @@ pub fn a_file_is_spelled_or_at_fault()
     ensures { HaveReading }
 {}
 
-/// A file that spells a snapshot is refused only for want of memory.
+/// A file that spells a snapshot is refused only where memory runs out.
 pub fn a_spelled_file_has_no_fault()
     ensures { HaveNoFault }
 {}

@@ -19,6 +19,3 @@ pub use mem::Mem;
 pub use registers::{Reg, reg_of};
 pub use regs::Regs;
 pub use snapshot::Snapshot;
-
-#[cfg(test)]
-mod tests;

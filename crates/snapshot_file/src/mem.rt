@@ -97,7 +97,7 @@ fn abuts(spans: &[Span], at: u64) -> bool
     }
 }
 
-/// Puts the bytes behind those of the last run.
+/// Puts the bytes after those of the last run.
 fn extend_run(buffer: &mut Vec<u8>, spans: &mut Vec<Span>, bytes: &[u8]) -> Result<(), Memory>
     requires some { 0 < length spans.old.items }
     requires filled { Fill 0 spans.old.items (length buffer.old.items) }
@@ -140,7 +140,7 @@ fn push_run(
     }
 }
 
-/// Puts the bytes behind those that are there, joined to the last run where they abut.
+/// Puts the bytes after those that are there, joined to the last run where they abut.
 fn put_run(buffer: &mut Vec<u8>, spans: &mut Vec<Span>, at: u64, bytes: &[u8]) -> Result<(), Memory>
     requires filled { Fill 0 spans.old.items (length buffer.old.items) }
     ensures run { OnOk result (runs_of buffer.new.items spans.new.items ≡ with_run (runs_of buffer.old.items spans.old.items) (record { at = at; bytes = bytes.now })) }

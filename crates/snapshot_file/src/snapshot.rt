@@ -44,7 +44,7 @@ struct Reading {
     snapshot: Snapshot,
 }
 
-/// The word behind the first, if there is just one.
+/// The word after the first, if there is just one.
 fn only_word(rest: Option<&[u8]>) -> Option<&[u8]>
     ensures { option_copied result ≡ only (behind (option_copied rest.entry)) }
 {
@@ -54,7 +54,7 @@ fn only_word(rest: Option<&[u8]>) -> Option<&[u8]>
     }
 }
 
-/// The two words behind the first, if there are just two.
+/// The two words after the first, if there are just two.
 fn both_words(rest: Option<&[u8]>) -> Option<(&[u8], &[u8])>
     ensures { option_map (λ p. (p.0.now, p.1.now)) result ≡ two (behind (option_copied rest.entry)) }
 {
@@ -84,7 +84,7 @@ fn read_version(reading: Reading, first: &[u8], rest: Option<&[u8]>) -> Result<R
     })
 }
 
-/// The number behind the first word.
+/// The number after the first word.
 fn read_number(line: u32, rest: Option<&[u8]>) -> Result<u64, SnapErr>
     ensures { Gives result (number_of_line line (behind (option_copied rest.entry))) }
 {
@@ -279,7 +279,7 @@ fn read_later(
     }
 }
 
-/// A line behind that of `pc`.
+/// A line after that of `pc`.
 fn read_third(
     alloc: Global,
     reading: Reading,

@@ -1,21 +1,23 @@
-pub mod RustLevels
-pub mod CvLevels
-pub mod Readers
-pub mod Lists
-pub mod Words
-pub mod Decimals
-pub mod Starts
-pub mod Combined
-pub mod RustLaws
-pub mod Joined
-pub mod Depth
-pub mod CvSpelled
-pub mod RustMeaning
-pub mod RustSpelled
-pub mod Scans
-pub mod Whole
-pub mod RustWhole
-mod Closings
-mod CvLaws
-mod CvMeaning
-mod CvWhole
+pub use Rattle.names.proofs.Readers
+pub use Rattle.names.proofs.Lists
+pub use Rattle.names.proofs.Words
+pub use Rattle.names.proofs.Decimals
+pub use Rattle.names.proofs.Starts
+pub use Rattle.names.proofs.Combined
+pub use Rattle.names.proofs.Joined
+pub use Rattle.names.proofs.Cases
+pub use Rattle.names.proofs.Plain
+pub use Rattle.names.proofs.Scans
+pub use Rattle.names.proofs.Whole
+pub use Rattle.rust_names.proofs.Depth
+pub use Rattle.rust_names.proofs.RustLevels
+pub use Rattle.rust_names.proofs.RustLaws
+pub use Rattle.rust_names.proofs.RustMeaning
+pub use Rattle.rust_names.proofs.RustSpelled
+pub use Rattle.rust_names.proofs.RustWhole
+pub use Rattle.cv_names.proofs.CvLevels
+pub use Rattle.cv_names.proofs.Closings
+pub use Rattle.cv_names.proofs.CvLaws
+pub use Rattle.cv_names.proofs.CvMeaning
+pub use Rattle.cv_names.proofs.CvSpelled
+pub use Rattle.cv_names.proofs.CvWhole

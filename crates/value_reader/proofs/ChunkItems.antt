@@ -13,7 +13,7 @@ use Rattle.expr_eval.specs.Results.{little_endian}
 use Rattle.image_view.specs.declared.chunk.Src.TheVariants as src
 use Rattle.image_view.specs.Places.{items_from}
 use Rattle.image_view.proofs.OneChunk.{memory_items}
-use Rattle.layout_model.specs.Places.{address_by}
+use Rattle.layout_values.specs.Places.{address_by}
 
 -- a chunk of missing bytes
 missing_from : (mem : List Run) (o n : ℕ) → items_from mem src.Missing o n ≡ replicate n None
@@ -34,7 +34,7 @@ same_number (b ∷ bytes) = ap (λ n. b + 256 * n) (same_number bytes ∙ sym (l
 
 -- an address past the number in a register
 pub past_register : (snap : Snapshot) (reg : Reg) (n : ℤ) (bytes : List ℕ) (low : ℕ) → register snap.regs reg ≡ Some bytes → low ≡ little_number (length bytes) bytes % 2 ^ 64
-    → Some ((low + cast_unsigned w64 n) % 2 ^ 64) ≡ address_by snap reg n
+    → Some ((low + cast_unsigned w64 n) % 2 ^ 64) ≡ address_by 8 snap reg n
 past_register snap reg n bytes low e f =
     ap (λ l. Some ((l + cast_unsigned w64 n) % 2 ^ 64)) f
     ∙ ap Some (mod-add-mod (little_number (length bytes) bytes) (2 ^ 64) (cast_unsigned w64 n))

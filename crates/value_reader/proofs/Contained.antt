@@ -2,11 +2,11 @@
 use Rattle.std.proofs.Common.{ℕ, zero, suc, ◌<◌, Bool, true, false, cond, List, [], ◌∷◌, ◌++◌, length, Option, Some, None, refl, arith}
 use Rattle.std.specs.List.{All, AllByRecursion, Contains}
 use Rattle.std.proofs.lemmas.List.Elements.{All-contains}
-use Rattle.layout_model.specs.declared.set.Field.{Field}
-use Rattle.layout_model.specs.declared.set.TypeRef.{TypeRef}
-use Rattle.layout_model.specs.declared.set.Variant.{Variant}
-use Rattle.layout_model.specs.Choice.{chosen, is_chosen_by}
-use Rattle.layout_model.specs.References.{field_types, variant_types}
+use Rattle.layout_set.specs.declared.set.Field.{Field}
+use Rattle.layout_set.specs.declared.set.TypeRef.{TypeRef}
+use Rattle.layout_set.specs.declared.set.Variant.{Variant}
+use Rattle.layout_values.specs.Choice.{chosen, is_chosen_by}
+use Rattle.layout_set.specs.References.{field_types, variant_types}
 
 member_head : {X : Type 0} (x : X) (xs : List X) → Contains (x ∷ xs) x
 member_head x xs = (zero, (let z : zero < suc (length xs) = omega arith in z), refl)

@@ -4,26 +4,26 @@ use Rattle.std.proofs.lemmas.Bool.{lt-ltb}
 use Rattle.std.proofs.lemmas.Option.{slice_get_within}
 use Rattle.std.specs.Prelude.{slice_get, ◌↔◌}
 use Rattle.std.specs.List.{AllByRecursion}
-use Rattle.type_names.specs.declared.name.PtrKind.{PtrKind}
+use Rattle.names.specs.declared.name.PtrKind.{PtrKind}
 use Rattle.rust_value.specs.declared.value.Val.{Val}
-use Rattle.layout_model.specs.declared.breach.Item.TheVariants.{Def}
-use Rattle.layout_model.specs.declared.set.Set.{Set}
-use Rattle.layout_model.specs.declared.set.TypeRef.{TypeRef}
-use Rattle.layout_model.specs.declared.set.TypeRef.TheVariants.{Prim, User}
-use Rattle.layout_model.specs.declared.set.TypeDef.{TypeDef}
-use Rattle.layout_model.specs.declared.set.TypeDef.TheVariants as defs
-use Rattle.layout_model.specs.declared.set.Field.{Field}
-use Rattle.layout_model.specs.declared.set.Variant.{Variant}
-use Rattle.layout_model.specs.Choice.{chosen}
-use Rattle.layout_model.specs.Contexts.{Items, Context, number_at, tag_number, field_part, element_part, target_part, far_part, shown_of}
-use Rattle.layout_model.specs.FirstBreach.{Holds}
-use Rattle.layout_model.specs.Images.{levels, IsImageWithin}
-use Rattle.layout_model.specs.Law2.{Law2}
-use Rattle.type_names.specs.Pointers.{is_non_null}
-use Rattle.layout_model.specs.Pointers.{below, pointee}
-use Rattle.layout_model.specs.References.{contents}
-use Rattle.layout_model.specs.Walk.{Doing, go_field, go_content, go_far, go_thin, go_slice, go_variant, go_enum, go_def, walk}
-use Rattle.layout_model.proofs.SizeLevels.{HasChains, element_chains, shallow_chains}
+use Rattle.layout_set.specs.declared.breach.Item.TheVariants.{Def}
+use Rattle.layout_set.specs.declared.set.Set.{Set}
+use Rattle.layout_set.specs.declared.set.TypeRef.{TypeRef}
+use Rattle.layout_set.specs.declared.set.TypeRef.TheVariants.{Prim, User}
+use Rattle.layout_set.specs.declared.set.TypeDef.{TypeDef}
+use Rattle.layout_set.specs.declared.set.TypeDef.TheVariants as defs
+use Rattle.layout_set.specs.declared.set.Field.{Field}
+use Rattle.layout_set.specs.declared.set.Variant.{Variant}
+use Rattle.layout_values.specs.Choice.{chosen}
+use Rattle.layout_values.specs.Contexts.{Items, Context, number_at, tag_number, field_part, element_part, target_part, far_part, shown_of}
+use Rattle.layout_set.specs.FirstBreach.{Holds}
+use Rattle.layout_values.specs.Images.{levels, IsImageWithin}
+use Rattle.layout_set.specs.Law2.{Law2}
+use Rattle.names.specs.Pointers.{is_non_null}
+use Rattle.layout_values.specs.Pointers.{below, pointee}
+use Rattle.layout_set.specs.References.{contents}
+use Rattle.layout_values.specs.Walk.{Doing, go_field, go_content, go_far, go_thin, go_slice, go_variant, go_enum, go_def, walk}
+use Rattle.layout_set.proofs.SizeLevels.{HasChains, element_chains, shallow_chains}
 use Rattle.value_reader.specs.Sees.{sighting}
 use Rattle.value_reader.proofs.Contained.{each_of, OfFields, of_fields, of_variants, OfSome, of_chosen}
 use Rattle.value_reader.proofs.Exact.{exact}
@@ -97,13 +97,13 @@ module _ {X : Type 0} (act : Doing X) (c : Context) (new old : ℕ → TypeRef �
   e_def (Some (defs.Array elem count)) p h =
       ap (act.seq count)
       (map_same (λ i. new d elem (element_part c elem p i)) (λ i. old d elem (element_part c elem p i)) (λ i. near elem (element_part c elem p i) h.0) (shown_of c count))
-  e_def (Some (defs.Thin kind to)) p h = e_thin kind to (number_at p 0 8)
-  e_def (Some (defs.Slice name kind ptr)) p h = e_slice kind (pointee c.types ptr) (number_at p 0 8) (number_at p 8 8)
+  e_def (Some (defs.Thin kind to)) p h = e_thin kind to (number_at p 0 c.ptr)
+  e_def (Some (defs.Slice name kind ptr)) p h = e_slice kind (pointee c.types ptr) (number_at p 0 c.ptr) (number_at p c.ptr c.ptr)
   e_def (Some (defs.Str name kind ptr)) p h = refl
   e_def (Some (defs.Dyn name kind ptr vtable)) p h = refl
   e_def (Some defs.FnPtr) p h = refl
   e_def (Some (defs.CLike name tag cases)) p h = refl
-  e_def (Some (defs.Enum name bytes align params tag variants)) p h = e_enum variants p (tag_number tag p) (of_variants P variants h)
+  e_def (Some (defs.Enum name bytes align params tag variants)) p h = e_enum variants p (tag_number c.ptr tag p) (of_variants P variants h)
   e_def (Some (defs.Bytes name bytes align)) p h = refl
 
 -- what a type contains begins shorter chains

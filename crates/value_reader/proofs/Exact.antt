@@ -3,25 +3,25 @@ use Rattle.std.proofs.Common.{◌≡◌, ◌≢◌, ℕ, zero, suc, ◌&&◌, Bo
 use Rattle.std.specs.Prelude.{slice_get}
 use Rattle.std.specs.Str.{is_utf8}
 use Rattle.snapshot_file.specs.Memory.{items_at, bytes_of}
-use Rattle.type_names.specs.declared.name.PtrKind.{PtrKind}
+use Rattle.names.specs.declared.name.PtrKind.{PtrKind}
 use Rattle.rust_value.specs.declared.value.Val.{Val}
 use Rattle.rust_value.specs.declared.value.Val.TheVariants as vals
 use Rattle.rust_value.specs.declared.value.Part.{Part}
-use Rattle.layout_model.specs.declared.set.TypeRef.{TypeRef}
-use Rattle.layout_model.specs.declared.set.TypeRef.TheVariants.{Prim, User}
-use Rattle.layout_model.specs.declared.set.TypeDef.{TypeDef}
-use Rattle.layout_model.specs.declared.set.TypeDef.TheVariants as defs
-use Rattle.layout_model.specs.declared.set.Field.{Field}
-use Rattle.layout_model.specs.declared.set.Case.{Case}
-use Rattle.layout_model.specs.declared.set.Variant.{Variant}
-use Rattle.layout_model.specs.Primitives.{prim_bytes}
-use Rattle.layout_model.specs.Sizes.{size}
-use Rattle.layout_model.specs.Choice.{chosen}
-use Rattle.layout_model.specs.Scalars.{prim_value}
-use Rattle.layout_model.specs.Pointers.{may_point, may_span, below, pointee}
-use Rattle.layout_model.specs.Contexts.{Items, Context, number_at, tag_number, case_of, field_part, element_part, target_part, far_part, shown_of}
-use Rattle.layout_model.specs.Images.{Paired, AreFields, AreElements, IsContent, IsFar, IsText, IsSlicePointer, IsOf, IsLayer, IsImageWithin}
-use Rattle.layout_model.specs.Walk.{valued, scalar_at, allowed, function_value, case_name, case_value, go_field, go_elements, go_content, go_far, go_thin, go_slice, go_text, go_str, go_dyn, go_variant, go_enum, go_def, go_layer, walk}
+use Rattle.layout_set.specs.declared.set.TypeRef.{TypeRef}
+use Rattle.layout_set.specs.declared.set.TypeRef.TheVariants.{Prim, User}
+use Rattle.layout_set.specs.declared.set.TypeDef.{TypeDef}
+use Rattle.layout_set.specs.declared.set.TypeDef.TheVariants as defs
+use Rattle.layout_set.specs.declared.set.Field.{Field}
+use Rattle.layout_set.specs.declared.set.Case.{Case}
+use Rattle.layout_set.specs.declared.set.Variant.{Variant}
+use Rattle.layout_set.specs.Primitives.{prim_bytes}
+use Rattle.layout_set.specs.Sizes.{size}
+use Rattle.layout_values.specs.Choice.{chosen}
+use Rattle.layout_values.specs.Scalars.{prim_value}
+use Rattle.layout_values.specs.Pointers.{may_point, may_span, below, pointee}
+use Rattle.layout_values.specs.Contexts.{Items, Context, number_at, tag_number, case_of, field_part, element_part, target_part, far_part, shown_of}
+use Rattle.layout_values.specs.Images.{Paired, AreFields, AreElements, IsContent, IsFar, IsText, IsSlicePointer, IsOf, IsLayer, IsImageWithin}
+use Rattle.layout_values.specs.Walk.{valued, scalar_at, allowed, function_value, case_name, case_value, go_field, go_elements, go_content, go_far, go_thin, go_slice, go_text, go_str, go_dyn, go_variant, go_enum, go_def, go_layer, walk}
 use Rattle.value_reader.specs.declared.seen.Seen.{Seen}
 use Rattle.value_reader.specs.declared.seen.Seen.TheVariants.{Good, Bad, Gone}
 use Rattle.value_reader.specs.Seeing.{seen_map, both, gather}
@@ -184,7 +184,7 @@ module _ (c : Context) where
     def_seen d (Some (defs.Thin kind to)) p x h = rw (h.1, h.2, content_is to h.0 (below kind d) h.3 h.5) (ap Good (sym h.4))
     def_seen d (Some (defs.Slice name kind ptr)) p x h = slice_seen d kind (pointee c.types ptr) p x h
       where
-        slice_seen : (d : ℕ) (kind : PtrKind) (e : Option TypeRef) (p : Items) (x : Val) → IsSlicePointer c Is d kind e p x → go_slice sighting c see d kind e (number_at p 0 8) (number_at p 8 8) ≡ Good x
+        slice_seen : (d : ℕ) (kind : PtrKind) (e : Option TypeRef) (p : Items) (x : Val) → IsSlicePointer c Is d kind e p x → go_slice sighting c see d kind e (number_at p 0 c.ptr) (number_at p c.ptr c.ptr) ≡ Good x
         slice_seen d kind None p x h = absurd h
         slice_seen d kind (Some elem) p x h = rw (h.1, h.3, h.4, far_is elem h.0 h.2 (below kind d) h.5 h.7) (ap Good (sym h.6))
     def_seen d (Some (defs.Str name kind ptr)) p x h = rw (h.1, h.3, h.4, text_is h.0 h.2 (below kind d) h.5 h.7) (ap Good (sym h.6))
@@ -201,25 +201,25 @@ module _ (c : Context) where
         let w = map_good (vals.Pointer kind at) (content_seen (go_content sighting c see to at (below kind d))) x b.1 in
         (at, refl, b.0, w.0, w.2, is_content to at (below kind d) w.0 w.1)
 
-    seen_span : (d : ℕ) (kind : PtrKind) (elem : TypeRef) (o q : Option ℕ) (x : Val) → go_slice sighting c see d kind (Some elem) o q ≡ Good x → (at : ℕ) × (o ≡ Some at) × (len : ℕ) × (q ≡ Some len) × (may_span kind (size c.types elem) at len ≡ true) × (content : Option Val) × (x ≡ vals.Slice kind at len content) × IsFar c Is elem at len (below kind d) content
+    seen_span : (d : ℕ) (kind : PtrKind) (elem : TypeRef) (o q : Option ℕ) (x : Val) → go_slice sighting c see d kind (Some elem) o q ≡ Good x → (at : ℕ) × (o ≡ Some at) × (len : ℕ) × (q ≡ Some len) × (may_span c.ptr kind (size c.ptr c.types elem) at len ≡ true) × (content : Option Val) × (x ≡ vals.Slice kind at len content) × IsFar c Is elem at len (below kind d) content
     seen_span d kind elem None None x e = absurd (gone_good e)
     seen_span d kind elem None (Some len) x e = absurd (gone_good e)
     seen_span d kind elem (Some at) None x e = absurd (gone_good e)
     seen_span d kind elem (Some at) (Some len) x e =
-        let b = if_good (may_span kind (size c.types elem) at len) (seen_map (vals.Slice kind at len) (content_seen (go_far sighting c see elem at len (below kind d)))) x e in
+        let b = if_good (may_span c.ptr kind (size c.ptr c.types elem) at len) (seen_map (vals.Slice kind at len) (content_seen (go_far sighting c see elem at len (below kind d)))) x e in
         let w = map_good (vals.Slice kind at len) (content_seen (go_far sighting c see elem at len (below kind d))) x b.1 in
         (at, refl, len, refl, b.0, w.0, w.2, is_far elem at len (below kind d) w.0 w.1)
 
-    seen_slice : (d : ℕ) (kind : PtrKind) (e : Option TypeRef) (p : Items) (x : Val) → go_slice sighting c see d kind e (number_at p 0 8) (number_at p 8 8) ≡ Good x → IsSlicePointer c Is d kind e p x
+    seen_slice : (d : ℕ) (kind : PtrKind) (e : Option TypeRef) (p : Items) (x : Val) → go_slice sighting c see d kind e (number_at p 0 c.ptr) (number_at p c.ptr c.ptr) ≡ Good x → IsSlicePointer c Is d kind e p x
     seen_slice d kind None p x e = absurd (bad_good e)
-    seen_slice d kind (Some elem) p x e = seen_span d kind elem (number_at p 0 8) (number_at p 8 8) x e
+    seen_slice d kind (Some elem) p x e = seen_span d kind elem (number_at p 0 c.ptr) (number_at p c.ptr c.ptr) x e
 
-    seen_str : (d : ℕ) (kind : PtrKind) (o q : Option ℕ) (x : Val) → go_str sighting c see d kind o q ≡ Good x → (at : ℕ) × (o ≡ Some at) × (len : ℕ) × (q ≡ Some len) × (may_span kind 1 at len ≡ true) × (content : Option (List ℕ)) × (x ≡ vals.Str kind at len content) × IsText c Is at len (below kind d) content
+    seen_str : (d : ℕ) (kind : PtrKind) (o q : Option ℕ) (x : Val) → go_str sighting c see d kind o q ≡ Good x → (at : ℕ) × (o ≡ Some at) × (len : ℕ) × (q ≡ Some len) × (may_span c.ptr kind 1 at len ≡ true) × (content : Option (List ℕ)) × (x ≡ vals.Str kind at len content) × IsText c Is at len (below kind d) content
     seen_str d kind None None x e = absurd (gone_good e)
     seen_str d kind None (Some len) x e = absurd (gone_good e)
     seen_str d kind (Some at) None x e = absurd (gone_good e)
     seen_str d kind (Some at) (Some len) x e =
-        let b = if_good (may_span kind 1 at len) (seen_map (vals.Str kind at len) (text_seen (go_text sighting c see at len (below kind d)))) x e in
+        let b = if_good (may_span c.ptr kind 1 at len) (seen_map (vals.Str kind at len) (text_seen (go_text sighting c see at len (below kind d)))) x e in
         let w = map_good (vals.Str kind at len) (text_seen (go_text sighting c see at len (below kind d))) x b.1 in
         (at, refl, len, refl, b.0, w.0, w.2, is_text at len (below kind d) w.0 w.1)
 
@@ -255,19 +255,19 @@ module _ (c : Context) where
     seen_def d (Some (defs.Array elem count)) p x e =
         let w = map_good (vals.Seq count) (all_seen (go_elements sighting c see d elem (element_part c elem p) count)) x e in
         (w.0, w.2, seen_elements d elem (element_part c elem p) count w.0 w.1)
-    seen_def d (Some (defs.Thin kind to)) p x e = seen_thin d kind to (number_at p 0 8) x e
+    seen_def d (Some (defs.Thin kind to)) p x e = seen_thin d kind to (number_at p 0 c.ptr) x e
     seen_def d (Some (defs.Slice name kind ptr)) p x e = seen_slice d kind (pointee c.types ptr) p x e
-    seen_def d (Some (defs.Str name kind ptr)) p x e = seen_str d kind (number_at p 0 8) (number_at p 8 8) x e
-    seen_def d (Some (defs.Dyn name kind ptr vtable)) p x e = seen_dyn kind (number_at p 0 8) (number_at p 8 8) x e
+    seen_def d (Some (defs.Str name kind ptr)) p x e = seen_str d kind (number_at p 0 c.ptr) (number_at p c.ptr c.ptr) x e
+    seen_def d (Some (defs.Dyn name kind ptr vtable)) p x e = seen_dyn kind (number_at p 0 c.ptr) (number_at p c.ptr c.ptr) x e
     seen_def d (Some defs.FnPtr) p x e =
-        let w = seen_scalar function_value (number_at p 0 8) x e in
+        let w = seen_scalar function_value (number_at p 0 c.ptr) x e in
         let f = function_some w.0 x w.2 in
         (w.0, w.1, f.0, f.1)
     seen_def d (Some (defs.CLike name tag cases)) p x e =
-        let w = seen_scalar (case_value cases) (number_at p 0 (prim_bytes tag)) x e in
+        let w = seen_scalar (case_value cases) (number_at p 0 (prim_bytes c.ptr tag)) x e in
         let y = case_some (case_of cases w.0) x w.2 in
         (w.0, w.1, y.0, y.1, y.2)
-    seen_def d (Some (defs.Enum name bytes align params tag variants)) p x e = seen_enum d variants p (tag_number tag p) x e
+    seen_def d (Some (defs.Enum name bytes align params tag variants)) p x e = seen_enum d variants p (tag_number c.ptr tag p) x e
     seen_def d (Some (defs.Bytes name bytes align)) p x e =
         let w = map_good vals.Bytes (or_gone (bytes_of p)) x e in
         (w.0, or_gone_good (bytes_of p) w.0 w.1, w.2)
@@ -277,7 +277,7 @@ module _ (c : Context) where
     layer_seen d (User i) p x h = def_seen d (slice_get c.types i) p x h
 
     seen_layer : (d : ℕ) (ty : TypeRef) (p : Items) (x : Val) → go_layer sighting c see d ty p ≡ Good x → IsLayer c Is d ty p x
-    seen_layer d (Prim prim) p x e = seen_scalar (prim_value prim) (number_at p 0 (prim_bytes prim)) x e
+    seen_layer d (Prim prim) p x e = seen_scalar (prim_value c.ptr prim) (number_at p 0 (prim_bytes c.ptr prim)) x e
     seen_layer d (User i) p x e = seen_def d (slice_get c.types i) p x e
 
   pub exact : (k : ℕ) → Exact (IsImageWithin c k) (seen c k)

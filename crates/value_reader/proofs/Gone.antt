@@ -3,9 +3,9 @@ use Rattle.std.proofs.Common.{◌≡◌, ◌∙◌, sym, refl, Bool, true, false
 use Rattle.std.specs.Str.{is_utf8}
 use Rattle.rust_value.specs.declared.value.Val.{Val}
 use Rattle.rust_value.specs.declared.value.Val.TheVariants as vals
-use Rattle.layout_model.specs.Images.{Paired}
-use Rattle.layout_model.specs.Reached.{is_missing, some_of, named_some, content_lacks, text_lacks, lacking}
-use Rattle.layout_model.proofs.Related.{Both, Named, Related}
+use Rattle.layout_values.specs.Images.{Paired}
+use Rattle.layout_values.specs.Reached.{is_missing, some_of, named_some, content_lacks, text_lacks, lacking}
+use Rattle.layout_values.proofs.Related.{Both, Named, Related}
 use Rattle.value_reader.specs.declared.seen.Seen.{Seen}
 use Rattle.value_reader.specs.declared.seen.Seen.TheVariants.{Good, Bad, Gone}
 use Rattle.value_reader.specs.Seeing.{seen_map, both}

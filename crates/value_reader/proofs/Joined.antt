@@ -8,7 +8,7 @@ use Rattle.snapshot_file.specs.Memory.{Run}
 use Rattle.image_view.specs.declared.chunk.Chunk.{Chunk}
 use Rattle.image_view.specs.Places.{Place, item_of, is_number, chunk_place, chunk_places, part_of, items_from, Rise}
 use Rattle.image_view.proofs.Chunks.{has, behind}
-use Rattle.layout_model.specs.Contexts.{Items}
+use Rattle.layout_values.specs.Contexts.{Items}
 
 -- each chunk begins where the one before ends
 abbrev pub Adjoin : ℕ → ℕ → List Chunk → Type 0

@@ -1,12 +1,12 @@
 -- One level of what is seen and counted.
 use Rattle.std.proofs.Common.{◌≡◌, ℕ, zero, suc, ◌-◌, ◌<◌, ◌≤◌, Bool, true, false, ◌&&◌, Option, Some, None, refl, arith}
-use Rattle.type_names.specs.declared.name.PtrKind.{PtrKind}
-use Rattle.layout_model.specs.Pointers.{may_point}
-use Rattle.layout_model.specs.declared.set.TypeRef.{TypeRef}
-use Rattle.layout_model.specs.declared.set.TypeRef.TheVariants.{Prim, User}
-use Rattle.layout_model.specs.Contexts.{Items, Context}
-use Rattle.layout_model.specs.Walk.{go_layer, go_dyn, walk, valued, scalar_at, allowed}
-use Rattle.layout_model.specs.Reached.{counting}
+use Rattle.names.specs.declared.name.PtrKind.{PtrKind}
+use Rattle.layout_values.specs.Pointers.{may_point}
+use Rattle.layout_set.specs.declared.set.TypeRef.{TypeRef}
+use Rattle.layout_set.specs.declared.set.TypeRef.TheVariants.{Prim, User}
+use Rattle.layout_values.specs.Contexts.{Items, Context}
+use Rattle.layout_values.specs.Walk.{go_layer, go_dyn, walk, valued, scalar_at, allowed}
+use Rattle.layout_values.specs.Reached.{counting}
 use Rattle.rust_value.specs.declared.value.Val.{Val}
 use Rattle.value_reader.specs.declared.seen.Seen.TheVariants.{Bad}
 use Rattle.value_reader.specs.Sees.{sighting, seen, nodes}

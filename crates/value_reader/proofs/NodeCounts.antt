@@ -4,16 +4,16 @@ use Rattle.std.specs.Option.{option_map}
 use Rattle.std.specs.Prelude.{ℤ}
 use Rattle.std.specs.Int.{cast_signed, w8, w16, w32, w64, w128}
 use lib.Utf8.{scalar}
-use Rattle.type_names.specs.declared.name.PtrKind.{PtrKind}
+use Rattle.names.specs.declared.name.PtrKind.{PtrKind}
 use Rattle.rust_value.specs.declared.value.Part.{Part, fold-roll-Part}
 use Rattle.rust_value.specs.declared.value.Val.{Val, fold-roll-Val}
 use Rattle.rust_value.specs.declared.value.Val.TheOpen.{Val-F}
 use Rattle.rust_value.specs.declared.value.Val.TheVariants as vals
 use Rattle.rust_value.specs.declared.value.Val.TheVariants.{rolls-Fields, rolls-Variant, rolls-Seq, rolls-Pointer, rolls-Slice, rolls-Str, rolls-Dyn, rolls-Function, rolls-Bytes, rolls-Unit, rolls-Bool, rolls-Char, rolls-Unsigned, rolls-Signed, rolls-Float32, rolls-Float64}
 use Rattle.rust_value.specs.Nodes.{nodes_of, part_nodes, val_step, part_step, content_nodes, shown_nodes}
-use Rattle.layout_model.specs.declared.primitive.Primitive.{Primitive}
-use Rattle.layout_model.specs.declared.primitive.Primitive.TheVariants as prim
-use Rattle.layout_model.specs.Scalars.{prim_value}
+use Rattle.layout_set.specs.declared.primitive.Primitive.{Primitive}
+use Rattle.layout_set.specs.declared.primitive.Primitive.TheVariants as prim
+use Rattle.layout_values.specs.Scalars.{pointer_width, prim_value}
 
 pub part-nodes : (part : Part) → part_nodes part ≡ nodes_of part.val
 part-nodes part = fold-roll-Part ℕ ℕ val_step part_step (record { name = part.name; val = part.val })
@@ -77,25 +77,25 @@ one_if : (b : Bool) (x : Val) → nodes_of x ≡ 1 → OneNode (cond b (Some x) 
 one_if true x e = e
 one_if false x e = tt
 
-prim_node : (p : Primitive) (n : ℕ) → OneNode (prim_value p n)
-prim_node prim.Unit n = nodes-Unit
-prim_node prim.Bool n = one_if (nat_lt n 2) (vals.Bool (n == 1)) (nodes-Bool (n == 1))
-prim_node prim.Char n = one_if (scalar n) (vals.Char n) (nodes-Char n)
-prim_node prim.I8 n = nodes-Signed (cast_signed w8 n)
-prim_node prim.I16 n = nodes-Signed (cast_signed w16 n)
-prim_node prim.I32 n = nodes-Signed (cast_signed w32 n)
-prim_node prim.I64 n = nodes-Signed (cast_signed w64 n)
-prim_node prim.I128 n = nodes-Signed (cast_signed w128 n)
-prim_node prim.Isize n = nodes-Signed (cast_signed w64 n)
-prim_node prim.U8 n = nodes-Unsigned n
-prim_node prim.U16 n = nodes-Unsigned n
-prim_node prim.U32 n = nodes-Unsigned n
-prim_node prim.U64 n = nodes-Unsigned n
-prim_node prim.U128 n = nodes-Unsigned n
-prim_node prim.Usize n = nodes-Unsigned n
-prim_node prim.F32 n = nodes-Float32 n
-prim_node prim.F64 n = nodes-Float64 n
+prim_node : (ptr : ℕ) (p : Primitive) (n : ℕ) → OneNode (prim_value ptr p n)
+prim_node ptr prim.Unit n = nodes-Unit
+prim_node ptr prim.Bool n = one_if (nat_lt n 2) (vals.Bool (n == 1)) (nodes-Bool (n == 1))
+prim_node ptr prim.Char n = one_if (scalar n) (vals.Char n) (nodes-Char n)
+prim_node ptr prim.I8 n = nodes-Signed (cast_signed w8 n)
+prim_node ptr prim.I16 n = nodes-Signed (cast_signed w16 n)
+prim_node ptr prim.I32 n = nodes-Signed (cast_signed w32 n)
+prim_node ptr prim.I64 n = nodes-Signed (cast_signed w64 n)
+prim_node ptr prim.I128 n = nodes-Signed (cast_signed w128 n)
+prim_node ptr prim.Isize n = nodes-Signed (cast_signed (pointer_width ptr) n)
+prim_node ptr prim.U8 n = nodes-Unsigned n
+prim_node ptr prim.U16 n = nodes-Unsigned n
+prim_node ptr prim.U32 n = nodes-Unsigned n
+prim_node ptr prim.U64 n = nodes-Unsigned n
+prim_node ptr prim.U128 n = nodes-Unsigned n
+prim_node ptr prim.Usize n = nodes-Unsigned n
+prim_node ptr prim.F32 n = nodes-Float32 n
+prim_node ptr prim.F64 n = nodes-Float64 n
 
 -- the value of a primitive has one node
-pub nodes-prim : (p : Primitive) (n : ℕ) (x : Val) → prim_value p n ≡ Some x → nodes_of x ≡ 1
-nodes-prim p n x e = subst OneNode e (prim_node p n)
+pub nodes-prim : (ptr : ℕ) (p : Primitive) (n : ℕ) (x : Val) → prim_value ptr p n ≡ Some x → nodes_of x ≡ 1
+nodes-prim ptr p n x e = subst OneNode e (prim_node ptr p n)

@@ -6,20 +6,20 @@ use Rattle.snapshot_file.specs.Memory.{Run}
 use Rattle.snapshot_file.specs.declared.snapshot.Snapshot.{Snapshot}
 use Rattle.image_view.specs.declared.chunk.Chunk.{Chunk}
 use Rattle.image_view.specs.Places.{item_of, chunk_places, part_of, items_from}
-use Rattle.layout_model.specs.declared.func.Piece.{Piece}
-use Rattle.layout_model.specs.Contexts.{Items}
-use Rattle.layout_model.specs.Places.{piece_items, place_items_if}
+use Rattle.layout_set.specs.declared.func.Piece.{Piece}
+use Rattle.layout_values.specs.Contexts.{Items}
+use Rattle.layout_values.specs.Places.{piece_items, place_items_if}
 use Rattle.value_reader.proofs.Joined.{Adjoin, chunk_items, joined, joined_places, pad, pad_is, pad_full, pad_same, piece_step}
 
 joined_more : (mem : List Run) (cs : List Chunk) (c : Chunk) → joined mem (cs ++ c ∷ []) ≡ joined mem cs ++ chunk_items mem c
 joined_more mem cs c = flat_map-append (chunk_items mem) cs (c ∷ []) ∙ ap (λ items. joined mem cs ++ items) (append-nil (chunk_items mem c))
 
-module _ (snap : Snapshot) (p : Piece) (c : Chunk) (from : (n : ℕ) → items_from snap.mem c.src 0 n ≡ place_items_if snap p.place n) where
-  length-piece : length (piece_items snap p) ≡ p.size
+module _ (snap : Snapshot) (p : Piece) (c : Chunk) (from : (n : ℕ) → items_from snap.mem c.src 0 n ≡ place_items_if 8 snap p.place n) where
+  length-piece : length (piece_items 8 snap p) ≡ p.size
   length-piece = ap length (sym (from p.size)) ∙ length-map-range_with_len (item_of snap.mem c.src) 0 p.size
 
   -- a chunk gives the first items of its piece
-  first_items : c.len ≤ p.size → chunk_items snap.mem c ≡ take c.len (piece_items snap p)
+  first_items : c.len ≤ p.size → chunk_items snap.mem c ≡ take c.len (piece_items 8 snap p)
   first_items h = sym (take-map-range_with_len (item_of snap.mem c.src) 0 p.size c.len h) ∙ ap (take c.len) (from p.size)
 
   pub longer : (cs : List Chunk) (off : ℕ) → length (joined snap.mem cs) ≡ off → length (joined snap.mem (cs ++ c ∷ [])) ≡ off + c.len
@@ -30,11 +30,11 @@ module _ (snap : Snapshot) (p : Piece) (c : Chunk) (from : (n : ℕ) → items_f
 
   -- one more piece
   pub more_items : (cs : List Chunk) (size : ℕ) (all rest : Items) → c.len ≡ min p.size (size - length (joined snap.mem cs))
-      → take size all ≡ take size (joined snap.mem cs ++ (piece_items snap p ++ rest)) → take size all ≡ take size (joined snap.mem (cs ++ c ∷ []) ++ rest)
+      → take size all ≡ take size (joined snap.mem cs ++ (piece_items 8 snap p ++ rest)) → take size all ≡ take size (joined snap.mem (cs ++ c ∷ []) ++ rest)
   more_items cs size all rest e f =
       let long = length-piece in
       f
-      ∙ piece_step size c.len (joined snap.mem cs) (piece_items snap p) rest (omega (arith, e, long))
+      ∙ piece_step size c.len (joined snap.mem cs) (piece_items 8 snap p) rest (omega (arith, e, long))
       ∙ ap (λ items. take size ((joined snap.mem cs ++ items) ++ rest)) (sym (first_items (omega (arith, e))))
       ∙ ap (λ items. take size (items ++ rest)) (sym (joined_more snap.mem cs c))
 

@@ -3,7 +3,7 @@ use Rattle.std.proofs.Common.{◌++◌, append_assoc, get_or, add-one, ◌≡◌
 use Rattle.std.proofs.Math.Nat.{pow-le-pow_right, pow-succ'}
 use Rattle.std.specs.Option.{option_map}
 use Rattle.std.proofs.Math.Seq.{drop-cons}
-use Rattle.layout_model.specs.Contexts.{Items}
+use Rattle.layout_values.specs.Contexts.{Items}
 use Rattle.std.proofs.lemmas.List.{take_min, length-take, length-map, take-map, drop-map}
 use Rattle.snapshot_file.specs.Memory.{Run, item_at, items_at, sub, number, bytes_of}
 use Rattle.image_view.specs.Places.{Place, part_of}

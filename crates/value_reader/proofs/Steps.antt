@@ -1,7 +1,7 @@
 -- One more turn of a loop that sees and counts.
 use Rattle.std.proofs.Common.{◌≡◌, ℕ, suc, ◌+◌, ◌-◌, ◌<◌, List, [], ◌∷◌, map, sym, ap, ◌∙◌, refl, append_assoc, arith, Result, Ok, Err}
 use Rattle.std.specs.List.{range_with_len}
-use Rattle.layout_model.specs.Reached.{total}
+use Rattle.layout_values.specs.Reached.{total}
 use Rattle.value_reader.specs.declared.seen.Seen.{Seen}
 use Rattle.value_reader.specs.declared.seen.Seen.TheVariants.{Good, Bad, Gone}
 use Rattle.value_reader.specs.declared.seen.Stop.{Stop}

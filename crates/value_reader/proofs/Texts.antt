@@ -3,24 +3,24 @@ use Rattle.std.proofs.Common.{◌≡◌, ◌∙◌, ap, refl, ℕ, zero, suc, �
 use Rattle.std.specs.Prelude.{slice_get, nat_lt}
 use Rattle.std.specs.Option.{option_map}
 use lib.Utf8.{scalar}
-use Rattle.type_names.specs.declared.name.PtrKind.{PtrKind}
+use Rattle.names.specs.declared.name.PtrKind.{PtrKind}
 use Rattle.rust_value.specs.declared.value.Val.{Val}
 use Rattle.rust_value.specs.declared.value.Val.TheVariants as vals
 use Rattle.rust_value.specs.declared.value.Part.{Part}
 use Rattle.rust_value.specs.Utf8.{has_texts, part_has_texts, all_true, true_of, is_text}
 use Rattle.rust_value.proofs.Parts.{texts-value}
 use Rattle.rust_value.proofs.TextLevels.{texts-Fields, texts-Variant, texts-Seq, texts-Pointer, texts-Slice, texts-Str, texts-Dyn, texts-Function, texts-Bytes, texts-Unit, texts-Bool, texts-Char, texts-Unsigned, texts-Signed, texts-Float32, texts-Float64}
-use Rattle.layout_model.specs.declared.primitive.Primitive.{Primitive}
-use Rattle.layout_model.specs.declared.primitive.Primitive.TheVariants as prim
-use Rattle.layout_model.specs.declared.set.TypeRef.{TypeRef}
-use Rattle.layout_model.specs.declared.set.TypeRef.TheVariants.{Prim, User}
-use Rattle.layout_model.specs.declared.set.TypeDef.{TypeDef}
-use Rattle.layout_model.specs.declared.set.TypeDef.TheVariants as defs
-use Rattle.layout_model.specs.declared.set.Field.{Field}
-use Rattle.layout_model.specs.Scalars.{prim_value}
-use Rattle.layout_model.specs.Pointers.{below, pointee}
-use Rattle.layout_model.specs.Contexts.{Items, Context, field_part, element_part, far_part, shown_of}
-use Rattle.layout_model.specs.Images.{Paired, AreFields, IsContent, IsFar, IsText, IsSlicePointer, IsOf, IsLayer, IsImageWithin}
+use Rattle.layout_set.specs.declared.primitive.Primitive.{Primitive}
+use Rattle.layout_set.specs.declared.primitive.Primitive.TheVariants as prim
+use Rattle.layout_set.specs.declared.set.TypeRef.{TypeRef}
+use Rattle.layout_set.specs.declared.set.TypeRef.TheVariants.{Prim, User}
+use Rattle.layout_set.specs.declared.set.TypeDef.{TypeDef}
+use Rattle.layout_set.specs.declared.set.TypeDef.TheVariants as defs
+use Rattle.layout_set.specs.declared.set.Field.{Field}
+use Rattle.layout_values.specs.Scalars.{prim_value}
+use Rattle.layout_values.specs.Pointers.{below, pointee}
+use Rattle.layout_values.specs.Contexts.{Items, Context, field_part, element_part, far_part, shown_of}
+use Rattle.layout_values.specs.Images.{Paired, AreFields, IsContent, IsFar, IsText, IsSlicePointer, IsOf, IsLayer, IsImageWithin}
 
 some_texts : (y x : Val) → Some y ≡ Some x → has_texts y ≡ true → has_texts x ≡ true
 some_texts y x e h = ap has_texts (let f : x ≡ y = cc in f) ∙ h
@@ -29,24 +29,24 @@ if_texts : (b : Bool) (y x : Val) → cond b (Some y) None ≡ Some x → has_te
 if_texts true y x e h = some_texts y x e h
 if_texts false y x e h = absurd (cc)
 
-prim_texts : (k : Primitive) (n : ℕ) (x : Val) → prim_value k n ≡ Some x → has_texts x ≡ true
-prim_texts prim.Unit n x e = some_texts _ x e texts-Unit
-prim_texts prim.Bool n x e = if_texts (nat_lt n 2) (vals.Bool (n == 1)) x e (texts-Bool (n == 1))
-prim_texts prim.Char n x e = if_texts (scalar n) (vals.Char n) x e (texts-Char n)
-prim_texts prim.I8 n x e = some_texts _ x e (texts-Signed _)
-prim_texts prim.I16 n x e = some_texts _ x e (texts-Signed _)
-prim_texts prim.I32 n x e = some_texts _ x e (texts-Signed _)
-prim_texts prim.I64 n x e = some_texts _ x e (texts-Signed _)
-prim_texts prim.I128 n x e = some_texts _ x e (texts-Signed _)
-prim_texts prim.Isize n x e = some_texts _ x e (texts-Signed _)
-prim_texts prim.U8 n x e = some_texts _ x e (texts-Unsigned n)
-prim_texts prim.U16 n x e = some_texts _ x e (texts-Unsigned n)
-prim_texts prim.U32 n x e = some_texts _ x e (texts-Unsigned n)
-prim_texts prim.U64 n x e = some_texts _ x e (texts-Unsigned n)
-prim_texts prim.U128 n x e = some_texts _ x e (texts-Unsigned n)
-prim_texts prim.Usize n x e = some_texts _ x e (texts-Unsigned n)
-prim_texts prim.F32 n x e = some_texts _ x e (texts-Float32 n)
-prim_texts prim.F64 n x e = some_texts _ x e (texts-Float64 n)
+prim_texts : (ptr : ℕ) (k : Primitive) (n : ℕ) (x : Val) → prim_value ptr k n ≡ Some x → has_texts x ≡ true
+prim_texts ptr prim.Unit n x e = some_texts _ x e texts-Unit
+prim_texts ptr prim.Bool n x e = if_texts (nat_lt n 2) (vals.Bool (n == 1)) x e (texts-Bool (n == 1))
+prim_texts ptr prim.Char n x e = if_texts (scalar n) (vals.Char n) x e (texts-Char n)
+prim_texts ptr prim.I8 n x e = some_texts _ x e (texts-Signed _)
+prim_texts ptr prim.I16 n x e = some_texts _ x e (texts-Signed _)
+prim_texts ptr prim.I32 n x e = some_texts _ x e (texts-Signed _)
+prim_texts ptr prim.I64 n x e = some_texts _ x e (texts-Signed _)
+prim_texts ptr prim.I128 n x e = some_texts _ x e (texts-Signed _)
+prim_texts ptr prim.Isize n x e = some_texts _ x e (texts-Signed _)
+prim_texts ptr prim.U8 n x e = some_texts _ x e (texts-Unsigned n)
+prim_texts ptr prim.U16 n x e = some_texts _ x e (texts-Unsigned n)
+prim_texts ptr prim.U32 n x e = some_texts _ x e (texts-Unsigned n)
+prim_texts ptr prim.U64 n x e = some_texts _ x e (texts-Unsigned n)
+prim_texts ptr prim.U128 n x e = some_texts _ x e (texts-Unsigned n)
+prim_texts ptr prim.Usize n x e = some_texts _ x e (texts-Unsigned n)
+prim_texts ptr prim.F32 n x e = some_texts _ x e (texts-Float32 n)
+prim_texts ptr prim.F64 n x e = some_texts _ x e (texts-Float64 n)
 
 both_true : (a b : Bool) → a ≡ true → b ≡ true → (a && b) ≡ true
 both_true a b h g = rw h g
@@ -94,7 +94,7 @@ module _ (c : Context) (Is : ℕ → TypeRef → Items → Val → Type 0) (text
   def_texts d (Some (defs.Bytes name bytes align)) p x h = ap has_texts h.2 ∙ texts-Bytes h.0
 
   layer_texts : (d : ℕ) (ty : TypeRef) (p : Items) (x : Val) → IsLayer c Is d ty p x → has_texts x ≡ true
-  layer_texts d (Prim k) p x h = prim_texts k h.0 x h.2
+  layer_texts d (Prim k) p x h = prim_texts c.ptr k h.0 x h.2
   layer_texts d (User i) p x h = def_texts d (slice_get c.types i) p x h
 
 -- a value that has an image has texts

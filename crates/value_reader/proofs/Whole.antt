@@ -2,13 +2,13 @@
 use Rattle.std.proofs.Common.{◌≡◌, ◌∙◌, sym, ap, arith, ℕ, ◌+◌, ◌≤◌, false, refl}
 use Rattle.std.proofs.lemmas.Bool.{false≢true}
 use Rattle.rust_value.specs.declared.value.Val.{Val}
-use Rattle.layout_model.specs.declared.outcome.Outcome.TheVariants.{Value, Unavailable, Invalid}
-use Rattle.layout_model.specs.declared.set.TypeRef.{TypeRef}
-use Rattle.layout_model.specs.Contexts.{Items, Context}
-use Rattle.layout_model.specs.Images.{levels}
-use Rattle.layout_model.specs.Reached.{Lacks, Nodes, lacking}
-use Rattle.layout_model.specs.Outcomes.{IsOutcome}
-use Rattle.layout_model.proofs.Related.{related}
+use Rattle.layout_values.specs.declared.outcome.Outcome.TheVariants.{Value, Unavailable, Invalid}
+use Rattle.layout_set.specs.declared.set.TypeRef.{TypeRef}
+use Rattle.layout_values.specs.Contexts.{Items, Context}
+use Rattle.layout_values.specs.Images.{levels}
+use Rattle.layout_values.specs.Reached.{Lacks, Nodes, lacking}
+use Rattle.layout_values.specs.Outcomes.{IsOutcome}
+use Rattle.layout_values.proofs.Related.{related}
 use Rattle.value_reader.specs.declared.seen.Seen.{Seen}
 use Rattle.value_reader.specs.declared.seen.Seen.TheVariants.{Good, Bad, Gone}
 use Rattle.value_reader.specs.Lacking.{is_gone}

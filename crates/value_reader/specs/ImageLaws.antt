@@ -4,16 +4,16 @@ use Rattle.std.specs.Prelude.{◌≡◌, ℕ, ◌≤◌, ◌↔◌, List, length
 use Rattle.snapshot_file.specs.Memory.{Run}
 use Rattle.rust_value.specs.Nodes.{nodes_of}
 use Rattle.rust_value.specs.declared.value.Val.{Val}
-use Rattle.layout_model.specs.declared.set.Set.{Set}
-use Rattle.layout_model.specs.declared.set.TypeRef.{TypeRef}
-use Rattle.layout_model.specs.Contexts.{Items, context_of}
-use Rattle.layout_model.specs.FirstBreach.{Holds}
-use Rattle.layout_model.specs.Images.{levels, IsImageWithin, IsImage}
-use Rattle.layout_model.specs.Law2.{Law2}
-use Rattle.layout_model.specs.Law4.{Law4}
-use Rattle.layout_model.specs.Reached.{Nodes}
-use Rattle.layout_model.specs.Sizes.{size}
-use Rattle.layout_model.specs.Walk.{Doing, walk}
+use Rattle.layout_set.specs.declared.set.Set.{Set}
+use Rattle.layout_set.specs.declared.set.TypeRef.{TypeRef}
+use Rattle.layout_values.specs.Contexts.{Items, context_of}
+use Rattle.layout_set.specs.FirstBreach.{Holds}
+use Rattle.layout_values.specs.Images.{levels, IsImageWithin, IsImage}
+use Rattle.layout_set.specs.Law2.{Law2}
+use Rattle.layout_set.specs.Law4.{Law4}
+use Rattle.layout_values.specs.Reached.{Nodes}
+use Rattle.layout_set.specs.Sizes.{size}
+use Rattle.layout_values.specs.Walk.{Doing, walk}
 
 -- Where no chain of types is too long (law 2), whatever is done with all that a type reaches comes out the same at all
 -- levels from `levels depth` on.
@@ -32,5 +32,5 @@ ImagesSuffice = (set : Set) (memory : List Run) (width depth k : ℕ) (ty : Type
 -- nodes as the type reaches there.
 abbrev pub NodesAgree : Type 0
 NodesAgree = (set : Set) (memory : List Run) (width depth : ℕ) (ty : TypeRef) (p : Items) (x : Val)
-    → Holds set (Law2 set) → Holds set (Law4 set) → length p ≡ size set.types ty
+    → Holds set (Law2 set) → Holds set (Law4 set) → length p ≡ size set.target.ptr set.types ty
     → IsImage (context_of set memory width) depth ty p x → nodes_of x ≡ Nodes (context_of set memory width) depth ty p

@@ -4,10 +4,10 @@ use Rattle.std.specs.Str.{is_utf8}
 use Rattle.rust_value.specs.declared.value.Val.{Val}
 use Rattle.rust_value.specs.declared.value.Val.TheVariants as vals
 use Rattle.rust_value.specs.declared.value.Part.{Part}
-use Rattle.layout_model.specs.declared.set.TypeRef.{TypeRef}
-use Rattle.layout_model.specs.Contexts.{Items, Context}
-use Rattle.layout_model.specs.Walk.{Doing, walk}
-use Rattle.layout_model.specs.Reached.{counting}
+use Rattle.layout_set.specs.declared.set.TypeRef.{TypeRef}
+use Rattle.layout_values.specs.Contexts.{Items, Context}
+use Rattle.layout_values.specs.Walk.{Doing, walk}
+use Rattle.layout_values.specs.Reached.{counting}
 use Rattle.value_reader.specs.declared.seen.Seen.{Seen}
 use Rattle.value_reader.specs.declared.seen.Seen.TheVariants.{Good, Bad, Gone}
 use Rattle.value_reader.specs.declared.seen.Stop.{Stop}

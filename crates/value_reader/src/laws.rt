@@ -1,5 +1,5 @@
 //! Laws of images, each the contract of a call that does nothing.
-ghost use Rattle.layout_model.specs.Outcomes.{OneValue};
+ghost use Rattle.layout_values.specs.Outcomes.{OneValue};
 ghost use Rattle.value_reader.specs.ImageLaws.{LevelsSuffice, ImagesSuffice, NodesAgree};
 
 /// No two values share an image.

@@ -18,6 +18,3 @@ pub use located::Located;
 pub use locating::locate;
 pub use reading::read_value;
 pub use selecting::select;
-
-#[cfg(test)]
-mod tests;

@@ -1,13 +1,13 @@
 //! Where a variable is while its program is paused.
 ghost use Rattle.std.specs.Prelude.{◌≡◌, option_map, IfOk, IfSome, length};
 ghost use Rattle.image_view.specs.Places.{Rise, chunk_places, part_of};
-ghost use Rattle.layout_model.specs.declared.func.Loc.TheVariants.{Pieces};
-ghost use Rattle.layout_model.specs.Places.{entry_at, place_items, loc_items, place_of};
+ghost use Rattle.layout_set.specs.declared.func.Loc.TheVariants.{Pieces};
+ghost use Rattle.layout_values.specs.Places.{entry_at, place_items, loc_items, place_of};
 
 use crate::located::Located;
 use crate::sources::{of_piece, of_place};
 use image_view::Chunk;
-use layout_model::{Entry, Loc, Piece, Place};
+use layout_set::{Entry, Loc, Piece, Place};
 use rv_io::{List, Memory};
 use snapshot_file::Snapshot;
 use std::alloc::Global;
@@ -27,7 +27,7 @@ fn whole_chunk<'a>(
     snap: &'a Snapshot,
 ) -> Result<List<Chunk<'a>>, Memory>
     ensures rise { IfOk result (Rise 0) }
-    ensures part { IfOk result (λ chunks. part_of (chunk_places snap.now.mem chunks 0 size) ≡ place_items snap.now place.now size) }
+    ensures part { IfOk result (λ chunks. part_of (chunk_places snap.now.mem chunks 0 size) ≡ place_items 8 snap.now place.now size) }
 {
     let mut chunks = List::new(alloc);
     chunks.push(Chunk {
@@ -46,7 +46,7 @@ fn piece_chunks<'a>(
     snap: &'a Snapshot,
 ) -> Result<List<Chunk<'a>>, Memory>
     ensures rise { IfOk result (Rise 0) }
-    ensures part { IfOk result (λ chunks. part_of (chunk_places snap.now.mem chunks 0 size) ≡ loc_items snap.now (Pieces pieces.now) size) }
+    ensures part { IfOk result (λ chunks. part_of (chunk_places snap.now.mem chunks 0 size) ≡ loc_items 8 snap.now (Pieces pieces.now) size) }
 {
     let mut chunks = List::new(alloc);
     let mut off: u32 = 0;
@@ -66,7 +66,7 @@ fn located<'a>(
     size: u32,
     snap: &'a Snapshot,
 ) -> Result<Located<'a>, Memory>
-    ensures part { IfOk result (λ l. part_of l ≡ loc_items snap.now loc.now size) }
+    ensures part { IfOk result (λ l. part_of l ≡ loc_items 8 snap.now loc.now size) }
     ensures size { IfOk result (λ l. length l ≡ size) }
 {
     let chunks = match loc {
@@ -89,7 +89,7 @@ pub fn locate<'a>(
     snap: &'a Snapshot,
 ) -> Result<Option<Located<'a>>, Memory>
     // The places are those of the first entry that tells of the program counter, if one does.
-    ensures places { IfOk result (λ found. option_map (λ l. part_of l) found ≡ place_of snap.now entries.now size) }
+    ensures places { IfOk result (λ found. option_map (λ l. part_of l) found ≡ place_of 8 snap.now entries.now size) }
 
     // There are `size` of them.
     ensures size { IfOk result (λ found. IfSome found (λ l. length l ≡ size)) }

@@ -3,13 +3,13 @@ ghost use Rattle.std.specs.Prelude.{◌≡◌, ℕ, ◌^◌, ◌<◌, ◌&&◌, 
 ghost use Rattle.image_view.specs.Places.{part_of};
 ghost use Rattle.rust_value.specs.declared.value.Val.{Val};
 ghost use Rattle.rust_value.specs.declared.value.Val.TheVariants.{Dyn};
-ghost use Rattle.layout_model.specs.declared.primitive.Primitive.TheVariants.{Bool as BoolPrim, Char as CharPrim};
-ghost use Rattle.layout_model.specs.declared.set.TypeRef.{TypeRef};
-ghost use Rattle.layout_model.specs.Primitives.{prim_bytes};
-ghost use Rattle.layout_model.specs.Scalars.{prim_value};
-ghost use Rattle.layout_model.specs.Pointers.{may_point};
-ghost use Rattle.layout_model.specs.Contexts.{Items, Context, number_at, case_of};
-ghost use Rattle.layout_model.specs.Walk.{scalar_at, allowed, go_dyn, function_value, case_value};
+ghost use Rattle.layout_set.specs.declared.primitive.Primitive.TheVariants.{Bool as BoolPrim, Char as CharPrim};
+ghost use Rattle.layout_set.specs.declared.set.TypeRef.{TypeRef};
+ghost use Rattle.layout_set.specs.Primitives.{prim_bytes};
+ghost use Rattle.layout_values.specs.Scalars.{prim_value};
+ghost use Rattle.layout_values.specs.Pointers.{may_point};
+ghost use Rattle.layout_values.specs.Contexts.{Items, Context, number_at, case_of};
+ghost use Rattle.layout_values.specs.Walk.{scalar_at, allowed, go_dyn, function_value, case_value};
 ghost use Rattle.value_reader.specs.declared.seen.Seen.{Seen};
 ghost use Rattle.value_reader.specs.declared.seen.Seen.TheVariants.{Good};
 ghost use Rattle.value_reader.specs.Sees.{sighting};
@@ -18,16 +18,16 @@ use crate::parts::{number_at, word_at};
 use crate::pointers::may_point;
 use crate::seen::Seen;
 use image_view::Image;
-use layout_model::{Case, Primitive, prim_size};
+use layout_set::{Case, Primitive, prim_size};
+use names::PtrKind;
 use rust_value::Val;
 use rv_io::{List, Memory};
 use std::alloc::Global;
-use type_names::PtrKind;
 
 /// The value of a number of a primitive type.
 fn prim_value(prim: Primitive, number: u128) -> Option<Val>
-    requires { number < 256 ^ prim_bytes prim }
-    ensures { result ≡ prim_value prim number }
+    requires { number < 256 ^ prim_bytes 8 prim }
+    ensures { result ≡ prim_value 8 prim number }
 {
     match prim {
         Primitive::Unit => Some(Val::Unit),
@@ -53,7 +53,7 @@ fn prim_value(prim: Primitive, number: u128) -> Option<Val>
 
 /// A truth value is 0 or 1.
 fn truth_value(number: u128) -> Option<Val>
-    ensures { result ≡ prim_value BoolPrim number }
+    ensures { result ≡ prim_value 8 BoolPrim number }
 {
     if number < 2 {
         Some(Val::Bool(number == 1))
@@ -65,7 +65,7 @@ fn truth_value(number: u128) -> Option<Val>
 /// A character is a Unicode scalar value.
 fn char_value(number: u128) -> Option<Val>
     requires { number < 2 ^ 32 }
-    ensures { result ≡ prim_value CharPrim number }
+    ensures { result ≡ prim_value 8 CharPrim number }
 {
     match char::from_u32(number as u32) {
         Some(c) => Some(Val::Char(c)),
@@ -75,9 +75,9 @@ fn char_value(number: u128) -> Option<Val>
 
 /// What is seen of a primitive.
 pub(crate) fn see_prim(prim: Primitive, image: &Image<'_>) -> Seen<Val>
-    ensures { result ≡ scalar_at sighting (prim_value prim) (number_at (part_of image.now) 0 (prim_bytes prim)) }
+    ensures { result ≡ scalar_at sighting (prim_value 8 prim) (number_at (part_of image.now) 0 (prim_bytes 8 prim)) }
 {
-    match number_at(image, 0, prim_size(prim)) {
+    match number_at(image, 0, prim_size(8, prim)) {
         None => Seen::Gone,
         Some(number) => match prim_value(prim, number) {
             None => Seen::Bad,
@@ -132,9 +132,9 @@ pub(crate) fn see_case(
     cases: &List<Case>,
     image: &Image<'_>,
 ) -> Result<Seen<Val>, Memory>
-    ensures { IfOk result (λ s. s ≡ scalar_at sighting (case_value cases.now) (number_at (part_of image.now) 0 (prim_bytes tag))) }
+    ensures { IfOk result (λ s. s ≡ scalar_at sighting (case_value cases.now) (number_at (part_of image.now) 0 (prim_bytes 8 tag))) }
 {
-    match number_at(image, 0, prim_size(tag)) {
+    match number_at(image, 0, prim_size(8, tag)) {
         None => Ok(Seen::Gone),
         Some(number) => match case_of(cases.as_slice(), number) {
             None => Ok(Seen::Bad),

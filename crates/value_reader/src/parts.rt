@@ -2,10 +2,10 @@
 ghost use Rattle.std.specs.Prelude.{◌≡◌, ◌+◌, ◌*◌, ◌^◌, ◌≤◌, ◌<◌, IfSome, IfOk};
 ghost use Rattle.snapshot_file.specs.Memory.{sub, bytes_of};
 ghost use Rattle.image_view.specs.Places.{part_of};
-ghost use Rattle.layout_model.specs.Contexts.{number_at, tag_number};
+ghost use Rattle.layout_values.specs.Contexts.{number_at, tag_number};
 
 use image_view::Image;
-use layout_model::{Tag, prim_size};
+use layout_set::{Tag, prim_size};
 use rv_io::{Memory, Text};
 use std::alloc::Global;
 
@@ -40,11 +40,11 @@ pub(crate) fn word_at(image: &Image<'_>, off: u32) -> Option<u64>
 
 /// The number of an enum's tag, or 0 where it has none.
 pub(crate) fn tag_number(tag: &Option<Tag>, image: &Image<'_>) -> Option<u128>
-    ensures { result ≡ tag_number tag.now (part_of image.now) }
+    ensures { result ≡ tag_number 8 tag.now (part_of image.now) }
 {
     match tag {
         None => Some(0),
-        Some(tag) => number_at(image, tag.off, prim_size(tag.prim)),
+        Some(tag) => number_at(image, tag.off, prim_size(8, tag.prim)),
     }
 }
 

@@ -1,9 +1,9 @@
 //! What the numbers of pointers may be, and how far pointers are followed.
 ghost use Rattle.std.specs.Prelude.{◌≡◌};
-ghost use Rattle.layout_model.specs.Pointers.{may_point, may_span, below, pointee};
+ghost use Rattle.layout_values.specs.Pointers.{may_point, may_span, below, pointee};
 
-use layout_model::{TypeDef, TypeRef};
-use type_names::PtrKind;
+use layout_set::{TypeDef, TypeRef};
+use names::PtrKind;
 
 /// A pointer of this kind may have this number.
 pub(crate) fn may_point(kind: PtrKind, at: u64) -> bool
@@ -14,7 +14,7 @@ pub(crate) fn may_point(kind: PtrKind, at: u64) -> bool
 
 /// A pointer of this kind to so many elements of this size may have this number.
 pub(crate) fn may_span(kind: PtrKind, size: u32, at: u64, len: u64) -> bool
-    ensures { result ≡ may_span kind size at len }
+    ensures { result ≡ may_span 8 kind size at len }
 {
     !kind.is_non_null() || 0 < at && u128::from(len) * u128::from(size) < 0x8000_0000_0000_0000
 }

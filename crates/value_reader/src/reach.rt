@@ -1,12 +1,13 @@
 //! What a type reaches in a part, seen in one pass and counted on the way.
-ghost use Rattle.std.specs.Prelude.{◌≡◌, ◌+◌, ◌*◌, ◌^◌, ◌<◌, map, Some, option_map, slice_get};
+ghost use Rattle.std.specs.Prelude.{length, ◌≡◌, ◌+◌, ◌*◌, ◌^◌, ◌<◌, map, Some, option_map, slice_get};
 ghost use Rattle.snapshot_file.specs.Memory.{items_at};
 ghost use Rattle.image_view.specs.Places.{part_of};
-ghost use Rattle.layout_model.specs.HasSizes.{HasSizes};
-ghost use Rattle.layout_model.specs.Sizes.{size};
-ghost use Rattle.layout_model.specs.Contexts.{context_of, element_part, far_part, tag_number, number_at};
-ghost use Rattle.layout_model.specs.Walk.{go_field, go_elements, go_thin, go_slice, go_str, go_enum, go_variant, go_def};
-ghost use Rattle.layout_model.specs.Reached.{counting, total, named_total};
+ghost use Rattle.layout_set.specs.HasSizes.{HasSizes};
+ghost use Rattle.layout_set.specs.Law1.{IsWithin};
+ghost use Rattle.layout_set.specs.Sizes.{size};
+ghost use Rattle.layout_values.specs.Contexts.{context_at, element_part, far_part, tag_number, number_at};
+ghost use Rattle.layout_values.specs.Walk.{go_field, go_elements, go_thin, go_slice, go_str, go_enum, go_variant, go_def};
+ghost use Rattle.layout_values.specs.Reached.{counting, total, named_total};
 ghost use Rattle.value_reader.specs.Sees.{sighting, seen, nodes, parts_seen, all_seen, Sees};
 
 use crate::numbers::{see_case, see_dyn, see_function, see_prim};
@@ -18,12 +19,12 @@ use crate::seen::{
 };
 use crate::selecting::chosen;
 use image_view::Image;
-use layout_model::{Field, Set, Tag, TypeDef, TypeRef, Variant, size_of};
+use layout_set::{Field, Set, Tag, TypeDef, TypeRef, Variant, size_of};
+use names::PtrKind;
 use rust_value::{Part, Val};
 use rv_io::List;
 use snapshot_file::Mem;
 use std::alloc::Global;
-use type_names::PtrKind;
 
 /// What parts are read in: a set whose types have sizes, the memory, and how many elements are shown at most; and what a value
 /// takes memory from.
@@ -48,7 +49,7 @@ impl<'a> Context<'a> {
         left: &mut u64,
     ) -> Result<Seen<Val>, Stop>
         requires { HasSizes self.now.set.now }
-        ensures { let c = context_of self.now.set.now self.now.mem.now self.now.width in Sees (seen c levels depth ty (part_of image.now)) (nodes c levels depth ty (part_of image.now)) left.old left.new result }
+        ensures { let c = context_at 8 self.now.set.now self.now.mem.now self.now.width in Sees (seen c levels depth ty (part_of image.now)) (nodes c levels depth ty (part_of image.now)) left.old left.new result }
     {
         count(left, 1)?;
         if levels == 0 {
@@ -64,7 +65,7 @@ impl<'a> Context<'a> {
     }
 
     #[cycle(see)]
-    #[tactic(auto, unfolding(layout_model::specs::Walk::go_def))]
+    #[tactic(auto, unfolding(layout_values::specs::Walk::go_def))]
     fn see_def(
         &self,
         def: &TypeDef,
@@ -74,7 +75,7 @@ impl<'a> Context<'a> {
         left: &mut u64,
     ) -> Result<Seen<Val>, Stop>
         requires { HasSizes self.now.set.now }
-        ensures { let c = context_of self.now.set.now self.now.mem.now self.now.width in Sees (go_def sighting c (seen c levels) depth (Some def.now) (part_of image.now)) (go_def counting c (nodes c levels) depth (Some def.now) (part_of image.now)) left.old left.new result }
+        ensures { let c = context_at 8 self.now.set.now self.now.mem.now self.now.width in Sees (go_def sighting c (seen c levels) depth (Some def.now) (part_of image.now)) (go_def counting c (nodes c levels) depth (Some def.now) (part_of image.now)) left.old left.new result }
     {
         match def {
             TypeDef::Struct { fields, .. } => {
@@ -117,7 +118,7 @@ impl<'a> Context<'a> {
         left: &mut u64,
     ) -> Result<Seen<List<Part>>, Stop>
         requires { HasSizes self.now.set.now }
-        ensures { let c = context_of self.now.set.now self.now.mem.now self.now.width in Sees (parts_seen (map (go_field sighting c (seen c levels) depth (part_of image.now)) fields.now)) (named_total (map (go_field counting c (nodes c levels) depth (part_of image.now)) fields.now)) left.old left.new result }
+        ensures { let c = context_at 8 self.now.set.now self.now.mem.now self.now.width in Sees (parts_seen (map (go_field sighting c (seen c levels) depth (part_of image.now)) fields.now)) (named_total (map (go_field counting c (nodes c levels) depth (part_of image.now)) fields.now)) left.old left.new result }
     {
         let mut parts = Seen::Good(List::new(self.alloc));
         for field in fields {
@@ -139,7 +140,7 @@ impl<'a> Context<'a> {
         left: &mut u64,
     ) -> Result<Seen<List<Val>>, Stop>
         requires { HasSizes self.now.set.now }
-        ensures { let c = context_of self.now.set.now self.now.mem.now self.now.width in Sees (all_seen (go_elements sighting c (seen c levels) depth elem (element_part c elem (part_of image.now)) count)) (total (go_elements counting c (nodes c levels) depth elem (element_part c elem (part_of image.now)) count)) left.old left.new result }
+        ensures { let c = context_at 8 self.now.set.now self.now.mem.now self.now.width in Sees (all_seen (go_elements sighting c (seen c levels) depth elem (element_part c elem (part_of image.now)) count)) (total (go_elements counting c (nodes c levels) depth elem (element_part c elem (part_of image.now)) count)) left.old left.new result }
     {
         let size = size_in(self.set, elem);
         let shown = count.min(u64::from(self.width)) as u32;
@@ -163,7 +164,7 @@ impl<'a> Context<'a> {
         left: &mut u64,
     ) -> Result<Seen<Val>, Stop>
         requires { HasSizes self.now.set.now }
-        ensures { let c = context_of self.now.set.now self.now.mem.now self.now.width in Sees (go_thin sighting c (seen c levels) depth kind to (Some at)) (go_thin counting c (nodes c levels) depth kind to (Some at)) left.old left.new result }
+        ensures { let c = context_at 8 self.now.set.now self.now.mem.now self.now.width in Sees (go_thin sighting c (seen c levels) depth kind to (Some at)) (go_thin counting c (nodes c levels) depth kind to (Some at)) left.old left.new result }
     {
         if !may_point(kind, at) {
             return Ok(Seen::Bad);
@@ -190,7 +191,7 @@ impl<'a> Context<'a> {
         left: &mut u64,
     ) -> Result<Seen<Val>, Stop>
         requires { HasSizes self.now.set.now }
-        ensures { let c = context_of self.now.set.now self.now.mem.now self.now.width in Sees (go_slice sighting c (seen c levels) depth kind (Some elem) (number_at (part_of image.now) 0 8) (number_at (part_of image.now) 8 8)) (go_slice counting c (nodes c levels) depth kind (Some elem) (number_at (part_of image.now) 0 8) (number_at (part_of image.now) 8 8)) left.old left.new result }
+        ensures { let c = context_at 8 self.now.set.now self.now.mem.now self.now.width in Sees (go_slice sighting c (seen c levels) depth kind (Some elem) (number_at (part_of image.now) 0 8) (number_at (part_of image.now) 8 8)) (go_slice counting c (nodes c levels) depth kind (Some elem) (number_at (part_of image.now) 0 8) (number_at (part_of image.now) 8 8)) left.old left.new result }
     {
         match (word_at(image, 0), word_at(image, 8)) {
             (Some(at), Some(len)) => self.see_span(kind, elem, at, len, depth, levels, left),
@@ -210,7 +211,7 @@ impl<'a> Context<'a> {
         left: &mut u64,
     ) -> Result<Seen<Val>, Stop>
         requires { HasSizes self.now.set.now }
-        ensures { let c = context_of self.now.set.now self.now.mem.now self.now.width in Sees (go_slice sighting c (seen c levels) depth kind (Some elem) (Some at) (Some len)) (go_slice counting c (nodes c levels) depth kind (Some elem) (Some at) (Some len)) left.old left.new result }
+        ensures { let c = context_at 8 self.now.set.now self.now.mem.now self.now.width in Sees (go_slice sighting c (seen c levels) depth kind (Some elem) (Some at) (Some len)) (go_slice counting c (nodes c levels) depth kind (Some elem) (Some at) (Some len)) left.old left.new result }
     {
         if !may_span(kind, size_in(self.set, elem), at, len) {
             return Ok(Seen::Bad);
@@ -237,7 +238,7 @@ impl<'a> Context<'a> {
         left: &mut u64,
     ) -> Result<Seen<List<Val>>, Stop>
         requires { HasSizes self.now.set.now }
-        ensures { let c = context_of self.now.set.now self.now.mem.now self.now.width in Sees (all_seen (go_elements sighting c (seen c levels) depth elem (far_part c elem at) len)) (total (go_elements counting c (nodes c levels) depth elem (far_part c elem at) len)) left.old left.new result }
+        ensures { let c = context_at 8 self.now.set.now self.now.mem.now self.now.width in Sees (all_seen (go_elements sighting c (seen c levels) depth elem (far_part c elem at) len)) (total (go_elements counting c (nodes c levels) depth elem (far_part c elem at) len)) left.old left.new result }
     {
         let size = size_in(self.set, elem);
         let shown = len.min(u64::from(self.width)) as u32;
@@ -259,7 +260,7 @@ impl<'a> Context<'a> {
         left: &mut u64,
     ) -> Result<Seen<Val>, Stop>
         requires { HasSizes self.now.set.now }
-        ensures { let c = context_of self.now.set.now self.now.mem.now self.now.width in Sees (go_str sighting c (seen c levels) depth kind (number_at (part_of image.now) 0 8) (number_at (part_of image.now) 8 8)) (go_str counting c (nodes c levels) depth kind (number_at (part_of image.now) 0 8) (number_at (part_of image.now) 8 8)) left.old left.new result }
+        ensures { let c = context_at 8 self.now.set.now self.now.mem.now self.now.width in Sees (go_str sighting c (seen c levels) depth kind (number_at (part_of image.now) 0 8) (number_at (part_of image.now) 8 8)) (go_str counting c (nodes c levels) depth kind (number_at (part_of image.now) 0 8) (number_at (part_of image.now) 8 8)) left.old left.new result }
     {
         match (word_at(image, 0), word_at(image, 8)) {
             (Some(at), Some(len)) => self.see_text(kind, at, len, depth, levels, left),
@@ -277,7 +278,7 @@ impl<'a> Context<'a> {
         left: &mut u64,
     ) -> Result<Seen<Val>, Stop>
         requires { HasSizes self.now.set.now }
-        ensures { let c = context_of self.now.set.now self.now.mem.now self.now.width in Sees (go_str sighting c (seen c levels) depth kind (Some at) (Some len)) (go_str counting c (nodes c levels) depth kind (Some at) (Some len)) left.old left.new result }
+        ensures { let c = context_at 8 self.now.set.now self.now.mem.now self.now.width in Sees (go_str sighting c (seen c levels) depth kind (Some at) (Some len)) (go_str counting c (nodes c levels) depth kind (Some at) (Some len)) left.old left.new result }
     {
         if !may_span(kind, 1, at, len) {
             return Ok(Seen::Bad);
@@ -302,7 +303,7 @@ impl<'a> Context<'a> {
         left: &mut u64,
     ) -> Result<Seen<Val>, Stop>
         requires { HasSizes self.now.set.now }
-        ensures { let c = context_of self.now.set.now self.now.mem.now self.now.width in Sees (go_enum sighting c (seen c levels) depth variants.now (part_of image.now) (tag_number tag.now (part_of image.now))) (go_enum counting c (nodes c levels) depth variants.now (part_of image.now) (tag_number tag.now (part_of image.now))) left.old left.new result }
+        ensures { let c = context_at 8 self.now.set.now self.now.mem.now self.now.width in Sees (go_enum sighting c (seen c levels) depth variants.now (part_of image.now) (tag_number 8 tag.now (part_of image.now))) (go_enum counting c (nodes c levels) depth variants.now (part_of image.now) (tag_number 8 tag.now (part_of image.now))) left.old left.new result }
     {
         match tag_number(tag, image) {
             None => Ok(Seen::Gone),
@@ -323,7 +324,7 @@ impl<'a> Context<'a> {
         left: &mut u64,
     ) -> Result<Seen<Val>, Stop>
         requires { HasSizes self.now.set.now }
-        ensures { let c = context_of self.now.set.now self.now.mem.now self.now.width in Sees (go_variant sighting c (seen c levels) depth (part_of image.now) (Some variant.now)) (go_variant counting c (nodes c levels) depth (part_of image.now) (Some variant.now)) left.old left.new result }
+        ensures { let c = context_at 8 self.now.set.now self.now.mem.now self.now.width in Sees (go_variant sighting c (seen c levels) depth (part_of image.now) (Some variant.now)) (go_variant counting c (nodes c levels) depth (part_of image.now) (Some variant.now)) left.old left.new result }
     {
         let parts = self.see_fields(variant.fields.as_slice(), image, depth, levels, left)?;
         Ok(variant_of(self.alloc, &variant.name, parts)?)
@@ -333,13 +334,23 @@ impl<'a> Context<'a> {
 /// The size of a type, which is 0 where the set has none.
 fn size_in(set: &Set, ty: TypeRef) -> u32
     requires { HasSizes set.now }
-    ensures value { result ≡ size set.now.types ty }
+    ensures value { result ≡ size 8 set.now.types ty }
     ensures small { result < 2 ^ 31 }
 {
     match ty {
         TypeRef::User(i) if i as usize >= set.types.as_slice().len() => 0,
-        _ => size_of(set, ty),
+        _ => known_size(set, ty),
     }
+}
+
+/// The size of a type that the set has.
+fn known_size(set: &Set, ty: TypeRef) -> u32
+    requires sizes { HasSizes set.now }
+    requires within { IsWithin (length set.now.types) ty }
+    ensures value { result ≡ size 8 set.now.types ty }
+    ensures small { result < 2 ^ 31 }
+{
+    size_of(set, ty)
 }
 
 /// The type at a place.

@@ -1,14 +1,15 @@
 //! The value of a type, read from its image.
 ghost use Rattle.std.specs.Prelude.{◌≡◌, ◌≤◌, IfOk};
 ghost use Rattle.image_view.specs.Places.{part_of};
-ghost use Rattle.layout_model.specs.HasSizes.{HasSizes};
-ghost use Rattle.layout_model.specs.Contexts.{context_of};
-ghost use Rattle.layout_model.specs.Outcomes.{IsOutcome, IsOnlyValue, HasTexts};
+ghost use Rattle.layout_set.specs.HasSizes.{HasSizes};
+ghost use Rattle.layout_values.specs.Contexts.{context_of};
+ghost use Rattle.layout_values.specs.Outcomes.{IsOutcome, IsOnlyValue, HasTexts};
 
 use crate::reach::Context;
 use crate::seen::{Seen, Stop};
 use image_view::Image;
-use layout_model::{Outcome, Set, TypeRef};
+use layout_set::{Set, TypeRef};
+use layout_values::Outcome;
 use rv_io::Memory;
 use snapshot_file::Mem;
 use std::alloc::Global;

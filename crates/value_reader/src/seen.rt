@@ -5,12 +5,12 @@ ghost use Rattle.snapshot_file.specs.Memory.{bytes_of, items_at};
 ghost use Rattle.value_reader.specs.Seeing.{seen_map, push_seen};
 ghost use Rattle.value_reader.specs.Sees.{named, Counts, or_gone, checked_text};
 
+use names::{PtrKind, Word};
 use readers::is_text;
 use rust_value::{Part, Val};
 use rv_io::{Boxed, List, Memory, Text};
 use snapshot_file::Mem;
 use std::alloc::Global;
-use type_names::{PtrKind, Word};
 
 /// What is seen of a part.
 #[derive(Drop)]

@@ -1,8 +1,8 @@
 //! Which variant of an enum a number chooses.
 ghost use Rattle.std.specs.Prelude.{◌≡◌, ◌-◌, ◌^◌, min, option_map, position};
-ghost use Rattle.layout_model.specs.Choice.{holds, chosen, is_chosen_by};
+ghost use Rattle.layout_values.specs.Choice.{holds, chosen, is_chosen_by};
 
-use layout_model::{Selector, Variant};
+use layout_set::{Selector, Variant};
 use rv_io::List;
 
 /// Whether the selector holds of the number.

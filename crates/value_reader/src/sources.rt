@@ -5,12 +5,12 @@ ghost use Rattle.std.specs.Option.{option_map, option_copied};
 ghost use Rattle.byteorder.specs.Endian.{little_number};
 ghost use Rattle.expr_eval.specs.Results.{result_of};
 ghost use Rattle.image_view.specs.Places.{items_from};
-ghost use Rattle.layout_model.specs.Places.{given_if, memory_if, address_by, spot_items, place_items, place_items_if};
+ghost use Rattle.layout_values.specs.Places.{given_if, memory_if, address_by, spot_items, place_items, place_items_if};
 
 use byteorder::{ByteOrder, LittleEndian};
 use expr_eval::{Spot, eval};
 use image_view::Src;
-use layout_model::Place;
+use layout_set::Place;
 use snapshot_file::{Reg, Snapshot};
 
 /// The little-endian number of the bytes, modulo 2^64.
@@ -32,7 +32,7 @@ fn displaced(number: u64, by: i32) -> u64
 
 /// The address so many bytes past the number in a register, modulo 2^64.
 fn address_by(snap: &Snapshot, reg: Reg, n: i32) -> Option<u64>
-    ensures { result ≡ address_by snap.now reg n }
+    ensures { result ≡ address_by 8 snap.now reg n }
 {
     match snap.regs.bytes(reg) {
         Some(bytes) => Some(displaced(low_number(bytes), n)),
@@ -62,7 +62,7 @@ fn of_address<'a>(at: Option<u64>) -> Src<'a>
 
 /// Memory at an address, or the eight bytes of a number.
 fn of_spot<'a>(spot: Spot) -> Src<'a>
-    ensures { (n : ℕ) (snap : Snapshot) → items_from snap.mem result 0 n ≡ spot_items snap (Some spot) n }
+    ensures { (n : ℕ) (snap : Snapshot) → items_from snap.mem result 0 n ≡ spot_items 8 snap (Some spot) n }
 {
     match spot {
         Spot::Address(at) => Src::Mem(at),
@@ -72,7 +72,7 @@ fn of_spot<'a>(spot: Spot) -> Src<'a>
 
 /// What operations give, if they have a result.
 fn of_spot_if<'a>(spot: Option<Spot>) -> Src<'a>
-    ensures { (n : ℕ) (snap : Snapshot) → items_from snap.mem result 0 n ≡ spot_items snap spot n }
+    ensures { (n : ℕ) (snap : Snapshot) → items_from snap.mem result 0 n ≡ spot_items 8 snap spot n }
 {
     match spot {
         Some(spot) => of_spot(spot),
@@ -82,7 +82,7 @@ fn of_spot_if<'a>(spot: Option<Spot>) -> Src<'a>
 
 /// What the bytes at the place are taken from.
 pub(crate) fn of_place<'a>(place: &'a Place, snap: &'a Snapshot) -> Src<'a>
-    ensures { (n : ℕ) → items_from snap.now.mem result 0 n ≡ place_items snap.now place.now n }
+    ensures { (n : ℕ) → items_from snap.now.mem result 0 n ≡ place_items 8 snap.now place.now n }
 {
     match place {
         Place::Reg(reg) => of_bytes(snap.regs.bytes(*reg)),
@@ -95,7 +95,7 @@ pub(crate) fn of_place<'a>(place: &'a Place, snap: &'a Snapshot) -> Src<'a>
 
 /// What a piece's bytes are taken from.
 pub(crate) fn of_piece<'a>(place: &'a Option<Place>, snap: &'a Snapshot) -> Src<'a>
-    ensures { (n : ℕ) → items_from snap.now.mem result 0 n ≡ place_items_if snap.now place.now n }
+    ensures { (n : ℕ) → items_from snap.now.mem result 0 n ≡ place_items_if 8 snap.now place.now n }
 {
     match place {
         Some(place) => of_place(place, snap),

@@ -1,4 +1,4 @@
-use Rattle.layout_file.proofs.IsSets.{spells_is_set}
+use Rattle.layout_lines.proofs.IsSets.{spells_is_set}
 use Rattle.dbg_command.proofs.answer.of_form.Goals as goal
 
 pub of_set-requires-clause-set : goal.of_set-requires-clause-set

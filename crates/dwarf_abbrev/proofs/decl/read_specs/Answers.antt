@@ -1,4 +1,4 @@
--- A pair ends the pairs, goes on with them, or is at fault.
+-- A pair ends the pairs, goes on with them, or is invalid.
 use Rattle.std.proofs.Common.{◌≡◌, true, false, sym, ◌∙◌}
 use Rattle.std.proofs.lemmas.Result.{err_from_is_err_and}
 use Rattle.std.proofs.lemmas.List.Elements.{All-push}

@@ -1,4 +1,4 @@
--- One declaration more, and the code 0 behind all.
+-- One declaration more, and the code 0 after all.
 use Rattle.std.proofs.Common.{take}
 use Rattle.rv_bytes.proofs.Puts.{on_ok}
 use Rattle.dwarf_abbrev.proofs.Written.{fresh_at, decls_more, decls_whole}

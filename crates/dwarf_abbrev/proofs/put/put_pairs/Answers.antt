@@ -1,4 +1,4 @@
--- One pair more, and the pair 0, 0 behind all.
+-- One pair more, and the pair 0, 0 after all.
 use Rattle.rv_bytes.proofs.Puts.{on_ok}
 use Rattle.dwarf_abbrev.specs.Tables.{end}
 use Rattle.dwarf_abbrev.proofs.Written.{pairs_more, pairs_whole}

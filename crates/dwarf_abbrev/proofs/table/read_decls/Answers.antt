@@ -1,4 +1,4 @@
--- A declaration goes on with the table, the code 0 ends it, or an item is at fault.
+-- A declaration goes on with the table, the code 0 ends it, or an item is invalid.
 use Rattle.std.proofs.Common.{◌≡◌, Some, None, ap, ◌∙◌}
 use Rattle.std.proofs.lemmas.Result.{err_from_is_err_and}
 use Rattle.rv_bytes.specs.Readers.{got}

@@ -3,9 +3,9 @@ use Rattle.std.proofs.Common.{subst, sym}
 use Rattle.rv_bytes.specs.Places.{Place}
 use Rattle.rv_bytes.specs.Results.{ReadsBy}
 use Rattle.rv_bytes.specs.declared.err.DwErr.{DwErr}
-use Rattle.dwarf_lists.specs.Rules.{outside}
+use Rattle.rv_bytes.specs.Rules.{outside}
 use Rattle.dwarf_lists.specs.Texts.{HasNoText}
-use Rattle.dwarf_lists.specs.TextReaders.{read_text}
+use Rattle.rv_bytes.specs.NumberReaders.{read_text}
 use Rattle.dwarf_lists.proofs.Indexed.{no_offset, has_text, has_no_text}
 use Rattle.dwarf_lists.proofs.texts.indexed_text.Goals as goal
 

@@ -4,7 +4,7 @@ use Rattle.entry_tree.specs.declared.node.Node.{Node}
 use Rattle.entry_tree.proofs.Offsets.{nodes_rise, none_past, none_other, found_there}
 use Rattle.entry_tree.proofs.search.number_at.Goals as goal
 
--- behind the last node there is none with the offset
+-- after the last node there is none with the offset
 pub returns-in_err-node : goal.returns-in_err-node
 returns-in_err-node c =
     let nodes = c.args.nodes.now in

@@ -1,6 +1,6 @@
 use Rattle.std.proofs.lemmas.Result.{on_ok_weaker}
-use Rattle.layout_file.specs.Sets.{layout_text}
-use Rattle.layout_file.proofs.ReadBack.{read_as}
+use Rattle.layout_lines.specs.Sets.{layout_text}
+use Rattle.layout_reader.proofs.ReadBack.{read_as}
 use Rattle.layout_file.proofs.writer.write.Goals as goal
 
 -- what spells the set is read as it

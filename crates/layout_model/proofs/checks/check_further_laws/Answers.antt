@@ -1,18 +1,18 @@
 use Rattle.std.proofs.Common.{[], ◌∷◌, Err}
 use Rattle.std.proofs.lemmas.Result.{err_from_is_err_and}
-use Rattle.layout_model.specs.Law7.{Law7}
-use Rattle.layout_model.specs.Law8.{Law8}
-use Rattle.layout_model.specs.Law9.{Law9}
-use Rattle.layout_model.specs.Law10.{Law10}
-use Rattle.layout_model.specs.Law11.{Law11}
-use Rattle.layout_model.specs.Law12.{Law12}
-use Rattle.layout_model.specs.Law13.{Law13}
-use Rattle.layout_model.specs.Law14.{Law14}
-use Rattle.layout_model.specs.FirstBreach.{Numbered}
-use Rattle.layout_model.specs.Laws.{further_laws}
-use Rattle.layout_model.specs.declared.set.Set.{Set}
+use Rattle.layout_set.specs.Law7.{Law7}
+use Rattle.layout_set.specs.Law8.{Law8}
+use Rattle.layout_set.specs.Law9.{Law9}
+use Rattle.layout_set.specs.Law10.{Law10}
+use Rattle.layout_set.specs.Law11.{Law11}
+use Rattle.layout_set.specs.Law12.{Law12}
+use Rattle.layout_set.specs.Law13.{Law13}
+use Rattle.layout_set.specs.Law14.{Law14}
+use Rattle.layout_set.specs.FirstBreach.{Numbered}
+use Rattle.layout_set.specs.Laws.{further_laws}
+use Rattle.layout_set.specs.declared.set.Set.{Set}
 use Rattle.std.specs.Prelude.{List}
-use Rattle.layout_model.proofs.Firsts.{go_on, stop, last}
+use Rattle.layout_set.proofs.Firsts.{go_on, stop, last}
 use Rattle.layout_model.proofs.checks.check_further_laws.Goals as goal
 
 abbrev from14 : Set → List Numbered

@@ -1,17 +1,21 @@
 use Rattle.std.proofs.lemmas.Result.{err_from_is_err_and}
-use Rattle.layout_model.specs.Laws.{sound_laws, further_laws}
-use Rattle.layout_model.specs.Law5.{HasFitNumbers, Law5}
-use Rattle.layout_model.proofs.Firsts.{both_rows, first_row, each_type}
-use Rattle.layout_model.proofs.SizeSteps.{are_small}
+use Rattle.layout_set.specs.Laws.{sound_laws, further_laws}
+use Rattle.layout_set.specs.Law5.{HasFitNumbers, Law5}
+use Rattle.layout_set.proofs.Firsts.{both_rows, first_row, each_type}
+use Rattle.layout_set.proofs.SizeSteps.{are_small, pointer_size}
 use Rattle.layout_model.proofs.checks.check_laws.Goals as goal
 
 pub check_further_laws-requires-clause-small : goal.check_further_laws-requires-clause-small
 unfolding sound_laws
 check_further_laws-requires-clause-small c = are_small c.args.set.now c.in_ok-check_sound_laws.ensures.1.1.0
 
+pub check_further_laws-requires-clause-pointers : goal.check_further_laws-requires-clause-pointers
+unfolding sound_laws
+check_further_laws-requires-clause-pointers c = pointer_size c.args.set.now c.in_ok-check_sound_laws.ensures.1.1.0
+
 pub check_further_laws-requires-clause-fit : goal.check_further_laws-requires-clause-fit
 unfolding sound_laws
-check_further_laws-requires-clause-fit c = each_type c.args.set.now HasFitNumbers (Law5 c.args.set.now) (λ i h. h) c.in_ok-check_sound_laws.ensures.1.1.1.1.0
+check_further_laws-requires-clause-fit c = each_type c.args.set.now (HasFitNumbers c.args.set.now.target.ptr) (Law5 c.args.set.now) (λ i h. h) c.in_ok-check_sound_laws.ensures.1.1.1.1.0
 
 pub returns-in_err-check_sound_laws : goal.returns-in_err-check_sound_laws
 returns-in_err-check_sound_laws c =

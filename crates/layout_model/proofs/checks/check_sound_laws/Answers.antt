@@ -1,17 +1,22 @@
 use Rattle.std.proofs.Common.{[], ◌∷◌, Err}
 use Rattle.std.proofs.lemmas.Result.{err_from_is_err_and}
-use Rattle.layout_model.specs.Law1.{Law1}
-use Rattle.layout_model.specs.Law2.{Law2}
-use Rattle.layout_model.specs.Law3.{Law3}
-use Rattle.layout_model.specs.Law4.{Law4}
-use Rattle.layout_model.specs.Law5.{Law5}
-use Rattle.layout_model.specs.Law6.{Law6}
-use Rattle.layout_model.specs.FirstBreach.{Numbered}
-use Rattle.layout_model.specs.Laws.{sound_laws}
-use Rattle.layout_model.specs.declared.set.Set.{Set}
+use Rattle.layout_set.specs.Law1.{Law1}
+use Rattle.layout_set.specs.Law2.{Law2}
+use Rattle.layout_set.specs.Law3.{Law3}
+use Rattle.layout_set.specs.Law4.{Law4}
+use Rattle.layout_set.specs.Law5.{Law5}
+use Rattle.layout_set.specs.Law6.{Law6}
+use Rattle.layout_set.specs.FirstBreach.{Numbered}
+use Rattle.layout_set.specs.Laws.{sound_laws}
+use Rattle.layout_set.specs.declared.set.Set.{Set}
 use Rattle.std.specs.Prelude.{List}
-use Rattle.layout_model.proofs.Firsts.{go_on, stop, last}
+use Rattle.layout_set.proofs.Firsts.{go_on, stop, last}
+use Rattle.layout_set.proofs.SizeSteps.{pointer_size}
 use Rattle.layout_model.proofs.checks.check_sound_laws.Goals as goal
+
+-- pointers have 8 bytes, by law 3
+pub law_5-requires : goal.law_5-requires
+law_5-requires c = pointer_size c.args.set.now c.in_ok-law_3.ensures
 
 abbrev from6 : Set → List Numbered
 from6 set = record { number = 6; law = Law6 set } ∷ []

@@ -21,11 +21,13 @@ put_values-returns-in_err-put_value-clause-front t c =
 
 pub put_values-loop-i-preserved : goal.put_values-loop-i-preserved
 put_values-loop-i-preserved t c =
-    put_next text_of (codes ", ") c.args.values.now c.loop-i.i _ c.args.out.now _ _ _ c.loop-i-test.true c.index-values-i.is c.loop-i.invariant c.in_ok-put_comma.ensures.appended c.in_ok-put_value.ensures.appended
+    put_next text_of (codes ", ") c.args.values.now c.loop-i.i _ c.args.out.now _ _ _ c.loop-i-test.true c.index-values-i.is c.loop-i.invariant
+    c.in_ok-put_comma.ensures.appended c.in_ok-put_value.ensures.appended
 
 pub put_named-put_part-requires : goal.put_named-put_part-requires
 put_named-put_part-requires t c =
-    let h : part_has_texts c.index-parts-i.result ≡ true = true_at part_has_texts c.args.parts.now c.loop-i.i _ c.requires c.loop-i-test.true c.index-parts-i.is in
+    let h : part_has_texts c.index-parts-i.result ≡ true =
+    true_at part_has_texts c.args.parts.now c.loop-i.i _ c.requires c.loop-i-test.true c.index-parts-i.is in
     (search (rules, the_lemmas), h)
 
 pub put_named-returns-in_err-put_part-clause-front : goal.put_named-returns-in_err-put_part-clause-front
@@ -36,11 +38,14 @@ put_named-returns-in_err-put_part-clause-front t c =
 
 pub put_named-loop-i-preserved : goal.put_named-loop-i-preserved
 put_named-loop-i-preserved t c =
-    put_next (λ part. named_text (shown_part part)) (codes ", ") c.args.parts.now c.loop-i.i _ c.args.out.now _ _ _ c.loop-i-test.true c.index-parts-i.is c.loop-i.invariant c.in_ok-put_comma.ensures.appended c.in_ok-put_part.ensures.appended
+    put_next (λ part. named_text (shown_part part))
+    (codes ", ") c.args.parts.now c.loop-i.i _ c.args.out.now _ _ _ c.loop-i-test.true c.index-parts-i.is c.loop-i.invariant
+    c.in_ok-put_comma.ensures.appended c.in_ok-put_part.ensures.appended
 
 pub put_unnamed-put_value-requires : goal.put_unnamed-put_value-requires
 put_unnamed-put_value-requires t c =
-    let h : part_has_texts c.index-parts-i.result ≡ true = true_at part_has_texts c.args.parts.now c.loop-i.i _ c.requires c.loop-i-test.true c.index-parts-i.is in
+    let h : part_has_texts c.index-parts-i.result ≡ true =
+    true_at part_has_texts c.args.parts.now c.loop-i.i _ c.requires c.loop-i-test.true c.index-parts-i.is in
     (search (rules, the_lemmas), sym (texts-value c.index-parts-i.result) ∙ h)
 
 pub put_unnamed-returns-in_err-put_value-clause-front : goal.put_unnamed-returns-in_err-put_value-clause-front
@@ -51,7 +56,9 @@ put_unnamed-returns-in_err-put_value-clause-front t c =
 
 pub put_unnamed-loop-i-preserved : goal.put_unnamed-loop-i-preserved
 put_unnamed-loop-i-preserved t c =
-    put_next (λ part. (shown_part part).1) (codes ", ") c.args.parts.now c.loop-i.i _ c.args.out.now _ _ _ c.loop-i-test.true c.index-parts-i.is c.loop-i.invariant c.in_ok-put_comma.ensures.appended
+    put_next (λ part. (shown_part part).1)
+    (codes ", ") c.args.parts.now c.loop-i.i _ c.args.out.now _ _ _ c.loop-i-test.true c.index-parts-i.is c.loop-i.invariant
+    c.in_ok-put_comma.ensures.appended
     (c.in_ok-put_value.ensures.appended ∙ ap (λ t. c.put_comma.new.out ++ t) (sym (shown-value c.index-parts-i.result)))
 
 pub put_parts-returns-in_ok-put_named-clause-appended : goal.put_parts-returns-in_ok-put_named-clause-appended

@@ -1,5 +1,5 @@
 use Rattle.std.proofs.Common.{◌≡◌, ◌++◌, map, take, codes}
-use Rattle.type_names.specs.RustText.{joined}
+use Rattle.names.specs.Joined.{joined}
 use Rattle.rust_value.specs.Texts.{text_of, shown_part, named_text}
 use Rattle.rust_value.proofs.printing.+printing.Given as goal
 

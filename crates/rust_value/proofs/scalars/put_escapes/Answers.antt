@@ -8,7 +8,7 @@ use Rattle.rust_value.proofs.Items.{shorter_front}
 use mathlib.Core.List.{map-id}
 use Rattle.rust_value.proofs.scalars.put_escapes.Goals as goal
 
--- the characters so far stand behind what stood before
+-- the characters so far stand after what stood before
 pub returns-in_err-put_escaped-clause-front : goal.returns-in_err-put_escaped-clause-front
 returns-in_err-put_escaped-clause-front c =
     let h : take (length c.args.out.now) c.put_escaped.new.out ≡ c.args.out.now =
@@ -18,5 +18,6 @@ returns-in_err-put_escaped-clause-front c =
 -- at the end the characters so far are all
 pub returns-clause-appended : goal.returns-clause-appended
 returns-clause-appended c =
-    let all = YieldsList-end (YieldsList-from_chars c.args.text.now c.utf8.text cc) c.loop-c.yielded _ c.loop-c.yielded_by _ _ c.in-None.is c.next.ensures.steps in
+    let all = YieldsList-end
+    (YieldsList-from_chars c.args.text.now c.utf8.text cc) c.loop-c.yielded _ c.loop-c.yielded_by _ _ c.in-None.is c.next.ensures.steps in
     c.loop-c.invariant ∙ ap (λ cs. c.args.out.now ++ flat_map (escaped 34) cs) (sym (map-id c.loop-c.yielded) ∙ all.0)

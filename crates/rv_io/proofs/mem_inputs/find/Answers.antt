@@ -1,5 +1,4 @@
-use Rattle.std.proofs.Common.{◌≡◌, sym, ◌∙◌, ap, cond, Some}
-use Rattle.rv_io.specs.MemInputs.{find_file}
+use Rattle.std.proofs.Common.{sym}
 use Rattle.rv_io.proofs.FilesByName.{found_at, passed_at}
 use Rattle.rv_io.proofs.mem_inputs.find.Goals as goal
 

@@ -1,4 +1,4 @@
-use Rattle.layout_model.specs.Contexts.{context_of}
+use Rattle.layout_values.specs.Contexts.{context_of}
 use Rattle.value_reader.proofs.Enough.{chains, suffice, images_suffice}
 use Rattle.value_reader.proofs.laws.levels_suffice.Goals as goal
 

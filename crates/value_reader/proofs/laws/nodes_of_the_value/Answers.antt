@@ -1,5 +1,5 @@
-use Rattle.layout_model.specs.Contexts.{context_of}
-use Rattle.layout_model.specs.Images.{levels}
+use Rattle.layout_values.specs.Contexts.{context_of}
+use Rattle.layout_values.specs.Images.{levels}
 use Rattle.value_reader.proofs.Filled.{fits, nodes_agree}
 use Rattle.value_reader.proofs.laws.nodes_of_the_value.Goals as goal
 

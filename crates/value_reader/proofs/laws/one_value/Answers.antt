@@ -1,4 +1,4 @@
-use Rattle.layout_model.specs.Images.{levels}
+use Rattle.layout_values.specs.Images.{levels}
 use Rattle.value_reader.proofs.Exact.{one_value}
 use Rattle.value_reader.proofs.laws.one_value.Goals as goal
 

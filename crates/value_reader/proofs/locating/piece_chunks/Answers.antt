@@ -2,7 +2,7 @@
 use Rattle.std.proofs.Common.{◌≡◌, ◌∙◌, ◌+◌, ◌++◌, ◌∷◌, [], sym, ap, take, drop, arith, refl, min, suc, ◌-◌, drop-cons, add-one}
 use Rattle.std.specs.List.{flat_map}
 use Rattle.image_view.specs.declared.chunk.Chunk.{Chunk}
-use Rattle.layout_model.specs.Places.{piece_items}
+use Rattle.layout_values.specs.Places.{piece_items}
 use Rattle.value_reader.proofs.Joined.{drop_past, joined, one_more, rise_of}
 use Rattle.value_reader.proofs.PieceSteps.{longer, more_items, all_items}
 use Rattle.value_reader.proofs.locating.piece_chunks.Goals as goal
@@ -12,7 +12,7 @@ loop-piece-preserved c =
     let snap = c.args.snap.now in
     let l = c.loop-piece in
     let p = c.piece-item.result in
-    let f = piece_items snap in
+    let f = piece_items 8 snap in
     let step : drop l.piece-index c.args.pieces.now ≡ p ∷ drop (l.piece-index + 1) c.args.pieces.now =
     drop-cons c.args.pieces.now l.piece-index p (omega (arith, c.loop-piece-test.true)) ∙ ap (λ x. x ∷ drop (suc l.piece-index) c.args.pieces.now) (sym c.piece-item.is) ∙ ap (λ k. p ∷ drop k c.args.pieces.now) (sym (add-one l.piece-index)) in
     let chunk : Chunk = record { off = l.off; len = c.min-len.result; src = c.of_piece-src.result } in
@@ -31,6 +31,6 @@ pub returns-clause-part : goal.returns-clause-part
 returns-clause-part c =
     let snap = c.args.snap.now in
     let l = c.loop-piece in
-    let f = piece_items snap in
+    let f = piece_items 8 snap in
     let none : drop l.piece-index c.args.pieces.now ≡ [] = drop_past c.args.pieces.now l.piece-index (omega (arith, c.loop-piece-test.false)) in
     all_items snap.mem l.off c.args.size l.chunks (flat_map f c.args.pieces.now) l.invariant.adjoin (l.invariant.items ∙ ap (λ rest. take c.args.size (joined snap.mem l.chunks ++ flat_map f rest)) none)

@@ -5,7 +5,7 @@ use Rattle.std.proofs.Math.Seq.{take-length}
 use Rattle.std.proofs.lemmas.Option.{IfSome_then}
 use Rattle.snapshot_file.specs.Memory.{sub, number}
 use Rattle.image_view.specs.Places.{part_of}
-use Rattle.layout_model.specs.Contexts.{number_at}
+use Rattle.layout_values.specs.Contexts.{number_at}
 use Rattle.value_reader.proofs.Places.{length-sub, length-part}
 use Rattle.value_reader.proofs.parts.number_at.Goals as goal
 

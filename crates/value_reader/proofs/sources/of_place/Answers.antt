@@ -1,5 +1,5 @@
 use Rattle.std.proofs.Common.{◌∙◌, ap}
-use Rattle.layout_model.specs.Places.{given_if}
+use Rattle.layout_values.specs.Places.{given_if}
 use Rattle.value_reader.proofs.ChunkItems.{of_memory}
 use Rattle.value_reader.proofs.sources.of_place.Goals as goal
 

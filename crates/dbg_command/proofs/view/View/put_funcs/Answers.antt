@@ -1,4 +1,4 @@
-use Rattle.layout_model.specs.declared.breach.Item.TheVariants.{Func}
+use Rattle.layout_set.specs.declared.breach.Item.TheVariants.{Func}
 use Rattle.dbg_command.proofs.view.View.put_funcs.Goals as goal
 
 -- the types of all variables are types of the set

@@ -1,6 +1,6 @@
 use Rattle.std.proofs.Common.{sym}
 use Rattle.std.specs.List.{filter}
-use Rattle.layout_model.specs.Contexts.{context_of}
+use Rattle.layout_values.specs.Contexts.{context_of}
 use Rattle.dbg_command.specs.Lines.{AreVarLines, is_entered}
 use Rattle.dbg_command.proofs.InOrder.{front_put, next_kept, next_passed, ends_kept}
 use Rattle.dbg_command.proofs.view.View.put_scopes.Goals as goal

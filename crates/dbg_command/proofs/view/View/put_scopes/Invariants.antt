@@ -1,6 +1,6 @@
 use Rattle.std.proofs.Common.{drop}
 use Rattle.std.specs.List.{filter}
-use Rattle.layout_model.specs.Contexts.{context_of}
+use Rattle.layout_values.specs.Contexts.{context_of}
 use Rattle.dbg_command.specs.Lines.{AreVarLines, is_entered}
 use Rattle.dbg_command.proofs.InOrder.{Completes, IsFront}
 use Rattle.dbg_command.proofs.view.View.put_scopes.Given as goal

@@ -1,6 +1,6 @@
 use Rattle.std.proofs.Common.{◌≡◌, sym, subst, get_or, length}
-use Rattle.layout_model.specs.declared.breach.Item.TheVariants.{Static}
-use Rattle.layout_model.specs.Law1.{IsWithin}
+use Rattle.layout_set.specs.declared.breach.Item.TheVariants.{Static}
+use Rattle.layout_set.specs.Law1.{IsWithin}
 use Rattle.dbg_command.proofs.view.View.put_static_at.Goals as goal
 
 -- the type of a static is one of the set's

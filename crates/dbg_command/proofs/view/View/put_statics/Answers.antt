@@ -1,4 +1,4 @@
-use Rattle.layout_model.specs.Contexts.{context_of}
+use Rattle.layout_values.specs.Contexts.{context_of}
 use Rattle.dbg_command.specs.Lines.{IsStaticLine}
 use Rattle.dbg_command.proofs.InOrder.{front_put, next_at, ends_at}
 use Rattle.dbg_command.proofs.view.View.put_statics.Goals as goal

@@ -1,5 +1,5 @@
 use Rattle.std.proofs.Common.{refl}
-use Rattle.layout_model.specs.Contexts.{context_of}
+use Rattle.layout_values.specs.Contexts.{context_of}
 use Rattle.dbg_command.specs.Lines.{IsVarLine, var_line}
 use Rattle.dbg_command.proofs.InOrder.{front_put, next_of, ends_at}
 use Rattle.dbg_command.proofs.view.View.put_vars.Goals as goal

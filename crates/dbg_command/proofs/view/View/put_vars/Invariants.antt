@@ -1,5 +1,5 @@
 use Rattle.std.proofs.Common.{drop}
-use Rattle.layout_model.specs.Contexts.{context_of}
+use Rattle.layout_values.specs.Contexts.{context_of}
 use Rattle.dbg_command.specs.Lines.{IsVarLine}
 use Rattle.dbg_command.proofs.InOrder.{Completes, IsFront}
 use Rattle.dbg_command.proofs.view.View.put_vars.Given as goal

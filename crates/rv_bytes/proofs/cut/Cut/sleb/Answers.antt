@@ -1,18 +1,15 @@
 use Rattle.std.proofs.Common.{w64, ◌∙◌}
 use Rattle.std.proofs.lemmas.Int.{to_z-of_z}
-use Rattle.rv_bytes.specs.Numbers.{zero_or}
-use Rattle.rv_bytes.proofs.Lebs.{groups_are}
-use Rattle.rv_bytes.proofs.LebCalls.{sleb_taken, sleb_refused}
+use Rattle.rv_bytes.proofs.LebCalls.{low_sleb_read, low_sleb_taken}
 use Rattle.rv_bytes.proofs.cut.Cut.sleb.Goals as goal
 
-pub signed_bits-requires : goal.signed_bits-requires
-signed_bits-requires c = groups_are (zero_or 127) _ _ _ _ _ c.in-Ok.ensures.reads
+-- a byte below 128 is the whole number
+pub returns-in-Some-clause-taken : goal.returns-in-Some-clause-taken
+returns-in-Some-clause-taken c =
+    let value = to_z-of_z w64 c.signed_group.result (record { sfits = c.signed_group.type_inv }) ∙ c.signed_group.ensures in
+    low_sleb_taken c.args.self.now c.skip_byte.new.self c.in-Some.b _ c.in-Some.ensures value c.skip_byte.ensures
 
--- what the reader of groups gives is taken, and what it refuses is refused
-pub returns-in-Ok-clause-taken : goal.returns-in-Ok-clause-taken
-returns-in-Ok-clause-taken c =
-    let value = to_z-of_z w64 c.signed_bits.result (record { sfits = c.signed_bits.type_inv }) ∙ c.signed_bits.ensures in
-    sleb_taken c.args.self.now c.groups.new.self _ c.in-Ok.bytes.now value c.in-Ok.ensures.reads
-
-pub returns-in-Err-clause-refused : goal.returns-in-Err-clause-refused
-returns-in-Err-clause-refused c = sleb_refused c.args.self.now c.in-Err.e c.in-Err.ensures.reads
+pub returns-in-Some-clause-reads : goal.returns-in-Some-clause-reads
+returns-in-Some-clause-reads c =
+    let value = to_z-of_z w64 c.signed_group.result (record { sfits = c.signed_group.type_inv }) ∙ c.signed_group.ensures in
+    low_sleb_read c.args.self.now c.skip_byte.new.self c.in-Some.b _ c.in-Some.ensures value c.skip_byte.ensures

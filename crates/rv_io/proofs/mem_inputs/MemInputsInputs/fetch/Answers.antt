@@ -1,8 +1,6 @@
-use Rattle.std.proofs.Common.{◌≡◌, ◌≢◌, sym, ◌∙◌, ap, refl, subst, Some, None, Option, ℕ, take, ◌++◌, List, Err}
-use Rattle.std.specs.Option.{option_copied}
+use Rattle.std.proofs.Common.{◌≡◌, sym, ◌∙◌, ap, refl, Some, ◌++◌}
 use Rattle.std.proofs.lemmas.Result.{err_from_is_err_and}
-use Rattle.rv_io.specs.Files.{file}
-use Rattle.rv_io.specs.MemInputs.{told, IsFailing, IsThere, find_file, MemAnswers}
+use Rattle.rv_io.specs.MemInputs.{IsFailing, find_file}
 use Rattle.rv_io.proofs.FilesByName.{file-told_by, take_least, found_is_there, no_truth}
 use Rattle.rv_io.proofs.mem_inputs.MemInputsInputs.fetch.Goals as goal
 

@@ -1,9 +1,9 @@
 use Rattle.std.proofs.Common.{◌≡◌, ℕ, ◌+◌, ◌*◌, ◌-◌, map, drop}
 use Rattle.std.specs.List.{range_with_len}
 use Rattle.image_view.specs.Places.{part_of}
-use Rattle.layout_model.specs.Contexts.{context_of, element_part, far_part}
-use Rattle.layout_model.specs.Walk.{go_field}
-use Rattle.layout_model.specs.Reached.{counting, total, named_total}
+use Rattle.layout_values.specs.Contexts.{context_at, element_part, far_part}
+use Rattle.layout_values.specs.Walk.{go_field}
+use Rattle.layout_values.specs.Reached.{counting, total, named_total}
 use Rattle.value_reader.specs.Seeing.{append_seen}
 use Rattle.value_reader.specs.Sees.{sighting, parts_seen, all_seen, seen, nodes}
 use Rattle.value_reader.proofs.reach.Context.+see.Given as goal
@@ -42,7 +42,7 @@ decreases-see_enum l = 8 * l.levels + 3
 -- the fields so far, with the others, are all; and so many nodes are taken off
 abbrev pub invariant-see_fields-loop-field : goal.invariant-see_fields-loop-field
 invariant-see_fields-loop-field l =
-    let c = context_of l.self.set.now l.self.mem.now l.self.width in
+    let c = context_at 8 l.self.set.now l.self.mem.now l.self.width in
     let see = go_field sighting c (seen c l.levels) l.depth (part_of l.image) in
     let count = go_field counting c (nodes c l.levels) l.depth (part_of l.image) in
     record {
@@ -53,7 +53,7 @@ invariant-see_fields-loop-field l =
 -- the elements so far, with the others, are all; and so many nodes are taken off
 abbrev pub invariant-see_array-loop-i : goal.invariant-see_array-loop-i
 invariant-see_array-loop-i l =
-    let c = context_of l.self.set.now l.self.mem.now l.self.width in
+    let c = context_at 8 l.self.set.now l.self.mem.now l.self.width in
     let see = λ (i : ℕ). seen c l.levels l.depth l.elem (element_part c l.elem (part_of l.image) i) in
     let count = λ (i : ℕ). nodes c l.levels l.depth l.elem (element_part c l.elem (part_of l.image) i) in
     record {
@@ -64,7 +64,7 @@ invariant-see_array-loop-i l =
 -- the elements so far, with the others, are all; and so many nodes are taken off
 abbrev pub invariant-see_far-loop-i : goal.invariant-see_far-loop-i
 invariant-see_far-loop-i l =
-    let c = context_of l.self.set.now l.self.mem.now l.self.width in
+    let c = context_at 8 l.self.set.now l.self.mem.now l.self.width in
     let see = λ (i : ℕ). seen c l.levels l.depth l.elem (far_part c l.elem l.at i) in
     let count = λ (i : ℕ). nodes c l.levels l.depth l.elem (far_part c l.elem l.at i) in
     record {

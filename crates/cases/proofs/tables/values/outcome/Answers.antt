@@ -1,0 +1,7 @@
+use Rattle.layout_set.specs.Laws.{sound_laws}
+use Rattle.cases.proofs.tables.values.outcome.Goals as goal
+
+-- the first three laws of a sound set
+pub read_value-requires-clause-sizes : goal.read_value-requires-clause-sizes
+unfolding sound_laws
+read_value-requires-clause-sizes c = record { within = c.in-Ok.ensures 1; shallow = c.in-Ok.ensures 2; small = c.in-Ok.ensures 3 }

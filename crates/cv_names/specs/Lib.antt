@@ -1,0 +1,3 @@
+pub mod CvText
+pub mod Closings
+pub mod CvGrammar

@@ -1,0 +1,103 @@
+-- Words and files have at most one status, output and message.
+use Rattle.std.proofs.Common.{◌≡◌, ℕ, nat_lt, List, [], length, Bool, true, false, Decides, Option, Some, None, Result, Ok, Err, refl, sym, ap, subst, ◌∙◌, codes}
+use Rattle.std.specs.Bool.{one_answer}
+use Rattle.rv_io.specs.Files.{Files, file}
+use Rattle.layout_set.specs.declared.set.Set.{Set}
+use Rattle.layout_set.specs.declared.breach.CheckErr.{CheckErr}
+use Rattle.layout_set.specs.declared.breach.CheckErr.TheVariants as checks
+use Rattle.layout_set.specs.Laws.{laws}
+use Rattle.layout_honest.specs.Honest.{IsHonest}
+use Rattle.layout_values.specs.Outcomes.{OneValue}
+use Rattle.layout_reader.specs.declared.layout_err.LayoutErr.{LayoutErr}
+use Rattle.layout_reader.specs.declared.layout_err.LayoutErr.TheVariants as layout_errs
+use Rattle.layout_file.specs.Claims as layouts
+use Rattle.snapshot_file.specs.declared.snapshot.Snapshot.{Snapshot}
+use Rattle.snapshot_file.specs.declared.fault.SnapErr.{SnapErr}
+use Rattle.snapshot_file.specs.declared.fault.SnapErr.TheVariants as snap_errs
+use Rattle.snapshot_file.specs.Claims as snapshots
+use Rattle.snapshot_file.specs.Snapshots.{OneSnapshot}
+use Rattle.dbg_command.specs.Forms.{Form, check, text, form_of, layout_name}
+use Rattle.dbg_command.specs.Stops.{line, number_line, numbers_line, count_word, breach_line}
+use Rattle.dbg_command.specs.Answers.{Ending, Refuses, Puts, WithinLimit, WithFile, OfSnapshot, WithSnapshot, OfText, honesty_text, OfCheck, OfLawful, OfLaws, OfSet, OfRead, OfBytes, OfForm}
+use Rattle.dbg_command.specs.OneEnding.{OneEnding}
+use Rattle.dbg_command.proofs.OneReading.{OneBreach, one_layout, one_snapshot, one_check}
+use Rattle.dbg_command.proofs.OnePrint.{one_print}
+
+-- the theorems of the crates below, on which it rests
+pub record Below : Type 0 where
+  pub one_set : layouts.SpellOne
+  pub layout_spelled : layouts.HaveNoFault
+  pub layout_fault : layouts.HaveOneFault
+  pub one_snapshot : OneSnapshot
+  pub snapshot_spelled : snapshots.HaveNoFault
+  pub snapshot_fault : snapshots.HaveOneFault
+  pub one_value : OneValue
+  pub one_breach : (set : Set) → OneBreach set (laws set)
+
+abbrev IsOne : Ending → Type 0
+IsOne E = (status code : ℕ) (output text message said : List ℕ) → E status output message → E code text said → (status ≡ code) × (output ≡ text) × (message ≡ said)
+
+refuses : (code : ℕ) (said : List ℕ) → IsOne (Refuses code said)
+refuses code said s t o p m n h g = (h.0 ∙ sym g.0, h.1 ∙ sym g.1, h.2 ∙ sym g.2)
+
+puts : (whole : List ℕ) → IsOne (Puts whole)
+puts whole s t o p m n h g = (h.0 ∙ sym g.0, h.1 ∙ sym g.1, h.2 ∙ sym g.2)
+
+within : (name : List ℕ) (long : Bool) (E : Ending) → IsOne E → IsOne (WithinLimit name long E)
+within name true E one = refuses 1 (line (codes "rdbg: too many bytes ") name)
+within name false E one = one
+
+with_file : (name : List ℕ) (limit : ℕ) (Next : List ℕ → Ending) (found : Option (List ℕ)) → ((bytes : List ℕ) → IsOne (Next bytes)) → IsOne (WithFile name limit Next found)
+with_file name limit Next None one = refuses 1 (line (codes "rdbg: cannot open ") name)
+with_file name limit Next (Some bytes) one = within name (nat_lt limit (length bytes)) (Next bytes) (one bytes)
+
+of_snapshot : Below → (set : Set) (depth width : ℕ) (r : Result Snapshot SnapErr) → IsOne (OfSnapshot set depth width r)
+of_snapshot B set depth width (Ok snap) s t o p m n h g = (h.0 ∙ sym g.0, one_print B.one_value set depth width snap o p h.1 g.1, h.2 ∙ sym g.2)
+of_snapshot B set depth width (Err (snap_errs.BadLine l rule)) s t o p m n h g = refuses 1 _ s t o p m n h g
+of_snapshot B set depth width (Err (snap_errs.Overlap l)) s t o p m n h g = refuses 1 _ s t o p m n h g
+of_snapshot B set depth width (Err snap_errs.Memory) s t o p m n h g = absurd h
+
+with_snapshot : Below → (set : Set) (depth width : ℕ) (bytes : List ℕ) → IsOne (WithSnapshot set depth width bytes)
+with_snapshot B set depth width bytes s t o p m n h g =
+    let same : g.0 ≡ h.0 = one_snapshot B.one_snapshot B.snapshot_spelled B.snapshot_fault bytes g.0 h.0 g.1 h.1
+    (λ e. subst (λ r. OfSnapshot set depth width r t p n) e g.2) (λ e. subst (λ r. OfSnapshot set depth width r s o m) e h.2) in
+    of_snapshot B set depth width h.0 s t o p m n h.2 (subst (λ r. OfSnapshot set depth width r t p n) same g.2)
+
+of_check : (set : Set) → IsOne (OfCheck set)
+of_check set s t o p m n h g =
+    let same : g.0 ≡ h.0 = one_answer g.0 h.0 g.1 h.1 in
+    puts (honesty_text h.0) s t o p m n h.2 (subst (λ honest. Puts (honesty_text honest) t p n) same g.2)
+
+of_lawful : Below → (form : Form) (files : Files) (set : Set) → IsOne (OfLawful form files set)
+of_lawful B (check layout) files set = of_check set
+of_lawful B (text layout snapshot depth width) files set = with_file snapshot 67108864 (WithSnapshot set depth width) (file files snapshot) (with_snapshot B set depth width)
+
+of_laws : Below → (form : Form) (files : Files) (set : Set) (r : Result (Unit {0}) CheckErr) → IsOne (OfLaws form files set r)
+of_laws B form files set (Ok u) s t o p m n h g = of_lawful B form files set s t o p m n h g
+of_laws B form files set (Err (checks.Breach law at)) s t o p m n h g = refuses 1 (breach_line law at) s t o p m n h g
+of_laws B form files set (Err checks.Memory) s t o p m n h g = absurd h
+
+of_set : Below → (form : Form) (files : Files) (set : Set) → IsOne (OfSet form files set)
+of_set B form files set s t o p m n h g =
+    let same : g.0 ≡ h.0 = one_check set (laws set) (B.one_breach set) g.0 h.0 g.1 h.1
+    (λ e. subst (λ r. OfLaws form files set r t p n) e g.2) (λ e. subst (λ r. OfLaws form files set r s o m) e h.2) in
+    of_laws B form files set h.0 s t o p m n h.2 (subst (λ r. OfLaws form files set r t p n) same g.2)
+
+of_read : Below → (form : Form) (files : Files) (r : Result Set LayoutErr) → IsOne (OfRead form files r)
+of_read B form files (Ok set) s t o p m n h g = of_set B form files set s t o p m n h g
+of_read B form files (Err (layout_errs.BadLine l rule)) s t o p m n h g = refuses 1 _ s t o p m n h g
+of_read B form files (Err (layout_errs.Limit which)) s t o p m n h g = refuses 1 _ s t o p m n h g
+of_read B form files (Err layout_errs.Memory) s t o p m n h g = absurd h
+
+of_bytes : Below → (form : Form) (files : Files) (bytes : List ℕ) → IsOne (OfBytes form files bytes)
+of_bytes B form files bytes s t o p m n h g =
+    let same : g.0 ≡ h.0 = one_layout B.one_set B.layout_spelled B.layout_fault bytes g.0 h.0 g.1 h.1
+    (λ e. subst (λ r. OfRead form files r t p n) e g.2) (λ e. subst (λ r. OfRead form files r s o m) e h.2) in
+    of_read B form files h.0 s t o p m n h.2 (subst (λ r. OfRead form files r t p n) same g.2)
+
+of_form : Below → (form : Option Form) (files : Files) → IsOne (OfForm form files)
+of_form B None files = refuses 2 (line (codes "rdbg: usage") [])
+of_form B (Some form) files = with_file (layout_name form) 16777216 (OfBytes form files) (file files (layout_name form)) (of_bytes B form files)
+
+pub one_ending : Below → OneEnding
+one_ending B words files s t o p m n h g = of_form B (form_of words) files s t o p m n h g

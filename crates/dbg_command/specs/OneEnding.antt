@@ -1,0 +1,47 @@
+-- Words and files lead to one ending, and accepted files are answered.
+use Rattle.std.specs.Prelude.{◌≡◌, ◌⊎◌, ℕ, ◌≤◌, List, length, Some, IsSome}
+use Rattle.rv_io.specs.Faults.{Rose}
+use Rattle.rv_io.specs.Files.{Files, file}
+use Rattle.layout_set.specs.declared.set.Set.{Set}
+use Rattle.layout_set.specs.Laws.{IsLawful}
+use Rattle.layout_file.specs.Sets as layouts
+use Rattle.snapshot_file.specs.declared.snapshot.Snapshot.{Snapshot}
+use Rattle.snapshot_file.specs.Snapshots as snapshots
+use Rattle.dbg_command.specs.Forms.{Form, check, text, form_of}
+use Rattle.dbg_command.specs.Answers.{Answers}
+use Rattle.dbg_command.specs.Runs.{Ends}
+
+-- words and files have at most one status, output and message
+abbrev pub OneEnding : Type 0
+OneEnding = (words : List (List ℕ)) (files : Files) (status code : ℕ) (output text message said : List ℕ)
+    → Answers words files status output message → Answers words files code text said
+    → (status ≡ code) × (output ≡ text) × (message ≡ said)
+
+-- there are no words and files that have none
+abbrev pub SomeEnding : Type 0
+SomeEnding = (words : List (List ℕ)) (files : Files) → ((status : ℕ) (output message : List ℕ) → Answers words files status output message → ⊥) → ⊥
+
+-- the file is there and within its limit, and `Is` holds of its bytes
+abbrev pub IsGiven : Files → List ℕ → ℕ → (List ℕ → Type 0) → Type 0
+IsGiven files name limit Is = (bytes : List ℕ) × (file files name ≡ Some bytes) × (length bytes ≤ limit) × Is bytes
+
+-- the bytes are the text of a lawful set
+abbrev pub SpellsLawful : List ℕ → Type 0
+SpellsLawful bytes = (set : Set) × layouts.Spells set bytes × IsLawful set
+
+-- the bytes are the text of a snapshot
+abbrev pub SpellsSnapshot : List ℕ → Type 0
+SpellsSnapshot bytes = (snapshot : Snapshot) × snapshots.Spells bytes snapshot
+
+-- each file of the command is there, within its limit, and accepted
+abbrev pub IsAccepted : Files → Form → Type 0
+IsAccepted files (check layout) = IsGiven files layout 16777216 SpellsLawful
+IsAccepted files (text layout snapshot depth width) = IsGiven files layout 16777216 SpellsLawful × IsGiven files snapshot 67108864 SpellsSnapshot
+
+-- on accepted files a run in which neither a read nor a write failed ends with 0, or out of memory
+abbrev pub AcceptedAreAnswered : Type 0
+AcceptedAreAnswered = (words : List (List ℕ)) (form : Form) (files : Files) (reads_before reads_now writes_before writes_now code : ℕ) (output message : List ℕ)
+    → form_of words ≡ Some form → IsAccepted files form
+    → Ends (IsSome (form_of words)) (Some files) (Answers words) reads_before reads_now writes_before writes_now code output message
+    → (Rose reads_before reads_now → ⊥) → (Rose writes_before writes_now → ⊥)
+    → (code ≡ 0) ⊎ (code ≡ 5)

@@ -1,6 +1,0 @@
-use Rattle.std.proofs.Common.{◌≡◌, drop}
-use Rattle.layout_file.specs.Kinds.{named_in, type_kind_word}
-use Rattle.layout_file.proofs.kinds.type_kind_in.Given as goal
-
-abbrev pub invariant-loop-kind : goal.invariant-loop-kind
-invariant-loop-kind l = named_in type_kind_word (drop l.kind-index l.kinds) l.word ≡ named_in type_kind_word l.kinds l.word

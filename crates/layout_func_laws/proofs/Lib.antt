@@ -1,0 +1,4 @@
+pub mod OpenScopes
+pub mod OperationParts
+pub mod Follows
+pub mod Places

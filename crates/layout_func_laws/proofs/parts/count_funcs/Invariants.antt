@@ -1,0 +1,7 @@
+use Rattle.std.proofs.Common.{◌≡◌, ◌-◌, ◌^◌, min, take}
+use Rattle.std.specs.List.{sum_by}
+use Rattle.layout_set.specs.Counts.{func_parts}
+use Rattle.layout_func_laws.proofs.parts.count_funcs.Given as goal
+
+abbrev pub invariant-loop-func : goal.invariant-loop-func
+invariant-loop-func l = l.count ≡ min (sum_by func_parts (take l.func-index l.funcs)) (2 ^ 64 - 1)

@@ -1,0 +1,2 @@
+pub mod OpenScopes
+pub mod OperationParts

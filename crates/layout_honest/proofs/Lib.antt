@@ -1,0 +1,5 @@
+pub mod Lying
+pub mod Ranges
+pub mod Leaves
+pub mod LeavesBack
+pub mod Holders

@@ -1,8 +1,0 @@
-use Rattle.std.proofs.Common.{◌≡◌, take}
-use Rattle.std.specs.List.{filter}
-use Rattle.layout_model.specs.Carried.{entry_carries}
-use Rattle.layout_model.proofs.carried_places.carried_entries.Given as goal
-
--- the entries so far that are carried
-abbrev pub invariant-loop-entry : goal.invariant-loop-entry
-invariant-loop-entry l = l.found ≡ filter entry_carries (take l.entry-index l.entries)

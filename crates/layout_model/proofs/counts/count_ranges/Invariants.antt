@@ -1,7 +1,0 @@
-use Rattle.std.proofs.Common.{◌≡◌, ◌-◌, ◌^◌, min, take}
-use Rattle.std.specs.List.{sum_by}
-use Rattle.layout_model.specs.Counts.{entry_ranges}
-use Rattle.layout_model.proofs.counts.count_ranges.Given as goal
-
-abbrev pub invariant-loop-entry : goal.invariant-loop-entry
-invariant-loop-entry l = l.count ≡ min (sum_by entry_ranges (take l.entry-index l.entries)) (2 ^ 128 - 1)

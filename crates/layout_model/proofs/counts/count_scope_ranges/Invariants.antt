@@ -1,7 +1,0 @@
-use Rattle.std.proofs.Common.{◌≡◌, ◌-◌, ◌^◌, min, take}
-use Rattle.std.specs.List.{sum_by}
-use Rattle.layout_model.specs.Counts.{scope_ranges}
-use Rattle.layout_model.proofs.counts.count_scope_ranges.Given as goal
-
-abbrev pub invariant-loop-scope : goal.invariant-loop-scope
-invariant-loop-scope l = l.count ≡ min (sum_by scope_ranges (take l.scope-index l.scopes)) (2 ^ 128 - 1)

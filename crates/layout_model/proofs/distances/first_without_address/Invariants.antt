@@ -1,6 +1,0 @@
-use Rattle.std.specs.List.{AllWithin}
-use Rattle.layout_model.specs.Law14.{HasAddress}
-use Rattle.layout_model.proofs.distances.first_without_address.Given as goal
-
-abbrev pub invariant-loop-i : goal.invariant-loop-i
-invariant-loop-i l = AllWithin HasAddress l.statics 0 l.i

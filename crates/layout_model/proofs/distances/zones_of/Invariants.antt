@@ -1,7 +1,0 @@
-use Rattle.std.proofs.Common.{◌≡◌, ◌++◌, drop}
-use Rattle.std.specs.List.{flat_map}
-use Rattle.layout_model.specs.Law14.{zones_of}
-use Rattle.layout_model.proofs.distances.zones_of.Given as goal
-
-abbrev pub invariant-loop-func : goal.invariant-loop-func
-invariant-loop-func l = l.found.items ++ flat_map zones_of (drop l.func-index l.funcs) ≡ flat_map zones_of l.funcs

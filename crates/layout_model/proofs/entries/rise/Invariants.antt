@@ -1,6 +1,0 @@
-use Rattle.std.specs.List.{AllAdjacentBelow}
-use Rattle.layout_model.specs.Law13.{MayFollow}
-use Rattle.layout_model.proofs.entries.rise.Given as goal
-
-abbrev pub invariant-loop-i : goal.invariant-loop-i
-invariant-loop-i l = AllAdjacentBelow MayFollow l.entries l.i

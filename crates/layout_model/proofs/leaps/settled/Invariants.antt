@@ -1,9 +1,0 @@
-use Rattle.std.proofs.Common.{◌≡◌, ℕ}
-use Rattle.layout_model.specs.Leaps.{leaps, total, unended}
-use Rattle.layout_model.proofs.leaps.settled.Given as goal
-
-abbrev pub invariant-loop-table : goal.invariant-loop-table
-invariant-loop-table l = ((k : ℕ) × (l.table.items ≡ leaps k l.initial.table.items)) × (l.left ≡ total unended l.table.items)
-
-abbrev pub decreases-loop-table : goal.decreases-loop-table
-decreases-loop-table l = l.left

@@ -1,6 +1,0 @@
-use Rattle.std.specs.List.{AllWithin}
-use Rattle.layout_model.specs.Law13.{HasPlacedVars}
-use Rattle.layout_model.proofs.locations.has_placed_scopes.Given as goal
-
-abbrev pub invariant-loop-scope : goal.invariant-loop-scope
-invariant-loop-scope l = AllWithin (HasPlacedVars l.types) l.func.scopes 0 l.scope-index

@@ -1,6 +1,0 @@
-use Rattle.std.specs.List.{AllWithin}
-use Rattle.layout_model.specs.Law10.{HasGoodName}
-use Rattle.layout_model.proofs.names.first_misnamed.Given as goal
-
-abbrev pub invariant-loop-i : goal.invariant-loop-i
-invariant-loop-i l = AllWithin HasGoodName l.types 0 l.i

@@ -1,6 +1,0 @@
-use Rattle.std.proofs.Common.{◌≡◌, take, map}
-use Rattle.layout_model.specs.Heights.{step}
-use Rattle.layout_model.proofs.nesting.next_heights.Given as goal
-
-abbrev pub invariant-loop-def : goal.invariant-loop-def
-invariant-loop-def l = l.next.items ≡ map (step l.heights) (take l.def-index l.types)

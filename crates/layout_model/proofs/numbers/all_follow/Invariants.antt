@@ -1,7 +1,0 @@
-use Rattle.std.proofs.Common.{◌+◌}
-use Rattle.std.specs.List.{AllWithin}
-use Rattle.layout_model.specs.Law8.{FollowsNumbers}
-use Rattle.layout_model.proofs.numbers.all_follow.Given as goal
-
-abbrev pub invariant-loop-variant : goal.invariant-loop-variant
-invariant-loop-variant l = AllWithin (λ v. FollowsNumbers (l.greatest + 1) l.numbers v.sel) l.variants 0 l.variant-index

@@ -1,7 +1,0 @@
-use Rattle.std.proofs.Common.{◌+◌, ◌<◌}
-use Rattle.std.specs.List.{AllAdjacentBelow}
-use Rattle.layout_model.specs.Numbers.{difference_of}
-use Rattle.layout_model.proofs.numbers.differences_rise.Given as goal
-
-abbrev pub invariant-loop-i : goal.invariant-loop-i
-invariant-loop-i l = AllAdjacentBelow (λ a b. difference_of (l.greatest + 1) l.from a < difference_of (l.greatest + 1) l.from b) l.numbers l.i

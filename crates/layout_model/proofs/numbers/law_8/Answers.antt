@@ -1,8 +1,0 @@
-use Rattle.layout_model.specs.Law8.{Law8}
-use Rattle.layout_model.proofs.Firsts.{of_types}
-use Rattle.layout_model.proofs.numbers.law_8.Goals as goal
-
-pub returns : goal.returns
-returns c =
-    let set = c.args.set.now in
-    rw c.breach.ensures (of_types set 8 (Law8 set) c.in_ok-def.def tt (λ i. tt) (λ i. tt) (rw c.as_slice.ensures at c.in_ok-def.ensures))

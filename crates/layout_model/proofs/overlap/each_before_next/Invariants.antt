@@ -1,6 +1,0 @@
-use Rattle.std.specs.List.{AllAdjacentBelow}
-use Rattle.layout_model.specs.Overlap.{Before}
-use Rattle.layout_model.proofs.overlap.each_before_next.Given as goal
-
-abbrev pub invariant-loop-i : goal.invariant-loop-i
-invariant-loop-i l = AllAdjacentBelow Before l.spans l.i

@@ -1,8 +1,0 @@
-use Rattle.layout_model.specs.Law7.{Law7}
-use Rattle.layout_model.proofs.Firsts.{of_types}
-use Rattle.layout_model.proofs.overlap.law_7.Goals as goal
-
-pub returns : goal.returns
-returns c =
-    let set = c.args.set.now in
-    rw c.breach.ensures (of_types set 7 (Law7 set) c.in_ok-def.def tt (λ i. tt) (λ i. tt) (rw c.as_slice.ensures at c.in_ok-def.ensures))

@@ -1,7 +1,0 @@
-use Rattle.std.proofs.Common.{◌≡◌, ◌-◌, ◌^◌, min, take}
-use Rattle.std.specs.List.{sum_by}
-use Rattle.layout_model.specs.Counts.{var_parts}
-use Rattle.layout_model.proofs.parts.count_vars.Given as goal
-
-abbrev pub invariant-loop-var : goal.invariant-loop-var
-invariant-loop-var l = l.count ≡ min (sum_by var_parts (take l.var-index l.vars)) (2 ^ 64 - 1)

@@ -1,6 +1,0 @@
-use Rattle.std.proofs.Common.{◌≡◌, ◌++◌, take}
-use Rattle.layout_model.specs.References.{field_types}
-use Rattle.layout_model.proofs.references.add_fields.Given as goal
-
-abbrev pub invariant-loop-field : goal.invariant-loop-field
-invariant-loop-field l = l.found.items ≡ l.initial.found.items ++ field_types (take l.field-index l.fields)

@@ -1,6 +1,0 @@
-use Rattle.std.specs.List.{AllWithin}
-use Rattle.layout_model.specs.Law11.{StandsBefore}
-use Rattle.layout_model.proofs.references.all_before.Given as goal
-
-abbrev pub invariant-loop-ty : goal.invariant-loop-ty
-invariant-loop-ty l = AllWithin (StandsBefore l.types l.i) l.found 0 l.ty-index

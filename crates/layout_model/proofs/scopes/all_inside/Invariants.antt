@@ -1,6 +1,0 @@
-use Rattle.std.specs.List.{AllWithin}
-use Rattle.layout_model.specs.Law12.{IsInside}
-use Rattle.layout_model.proofs.scopes.all_inside.Given as goal
-
-abbrev pub invariant-loop-zone : goal.invariant-loop-zone
-invariant-loop-zone l = AllWithin (IsInside l.outer) l.zones 0 l.zone-index

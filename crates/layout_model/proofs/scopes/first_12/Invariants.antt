@@ -1,6 +1,0 @@
-use Rattle.std.specs.List.{AllWithin}
-use Rattle.layout_model.specs.Law12.{HasNestedScopes}
-use Rattle.layout_model.proofs.scopes.first_12.Given as goal
-
-abbrev pub invariant-loop-i : goal.invariant-loop-i
-invariant-loop-i l = AllWithin HasNestedScopes l.funcs 0 l.i

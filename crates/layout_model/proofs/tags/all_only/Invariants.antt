@@ -1,7 +1,0 @@
-use Rattle.std.proofs.Common.{◌≡◌, ◌↔◌, IsTrue}
-use Rattle.std.specs.List.{AllWithin}
-use Rattle.layout_model.specs.declared.set.Selector.TheVariants.{Only}
-use Rattle.layout_model.proofs.tags.all_only.Given as goal
-
-abbrev pub invariant-loop-variant : goal.invariant-loop-variant
-invariant-loop-variant l = AllWithin (λ v. (v.sel ≡ Only) ↔ IsTrue l.only) l.variants 0 l.variant-index

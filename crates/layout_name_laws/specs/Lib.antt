@@ -1,0 +1,2 @@
+pub mod NameLengths
+pub mod RustTexts

@@ -1,0 +1,10 @@
+pub mod HeadLaws
+pub mod NoneSpelled
+pub mod Refused
+pub mod EveryLine
+pub mod EveryFile
+pub mod Faultless
+pub mod KnownLines
+pub mod OneFault
+pub mod Bounds
+pub mod ReadBack

@@ -1,0 +1,6 @@
+pub mod LowestItems
+pub mod LowestLines
+pub mod LowestWords
+pub mod ItemRules
+pub mod Unfit
+pub mod Fit

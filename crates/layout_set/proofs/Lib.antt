@@ -1,0 +1,4 @@
+pub mod Firsts
+pub mod SizeSteps
+pub mod ExactNumbers
+pub mod SizeLevels

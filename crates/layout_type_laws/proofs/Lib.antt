@@ -1,0 +1,4 @@
+pub mod Chained
+pub mod Pairs
+pub mod Spans
+pub mod SortedNumbers

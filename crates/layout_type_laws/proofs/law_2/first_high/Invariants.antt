@@ -1,0 +1,5 @@
+use Rattle.std.proofs.Common.{◌<◌, ℕ, slice_index_or}
+use Rattle.layout_type_laws.proofs.law_2.first_high.Given as goal
+
+abbrev pub invariant-loop-i : goal.invariant-loop-i
+invariant-loop-i l = (j : ℕ) → j < l.i → slice_index_or l.heights j 0 < 257

@@ -1,0 +1,8 @@
+use Rattle.layout_set.specs.Law2.{Law2}
+use Rattle.layout_set.proofs.Firsts.{of_types}
+use Rattle.layout_type_laws.proofs.law_2.law_2.Goals as goal
+
+pub returns : goal.returns
+returns c =
+    let set = c.args.set.now in
+    rw c.breach.ensures (of_types set 2 (Law2 set) c.in_ok-def.def tt (λ i. tt) (λ i. tt) (rw c.as_slice.ensures at c.in_ok-def.ensures))

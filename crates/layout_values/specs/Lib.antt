@@ -1,0 +1,9 @@
+pub mod Choice
+pub mod Scalars
+pub mod Pointers
+pub mod Contexts
+pub mod Images
+pub mod Walk
+pub mod Reached
+pub mod Outcomes
+pub mod Places

@@ -1,0 +1,6 @@
+//! Which value an image shows, and which part a variable has.
+#![tactic(auto)]
+
+mod outcome;
+
+pub use outcome::Outcome;

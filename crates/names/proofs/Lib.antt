@@ -1,0 +1,11 @@
+pub mod Readers
+pub mod Lists
+pub mod Words
+pub mod Decimals
+pub mod Starts
+pub mod Combined
+pub mod Joined
+pub mod Cases
+pub mod Plain
+pub mod Scans
+pub mod Whole

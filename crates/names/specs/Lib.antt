@@ -1,0 +1,10 @@
+pub mod Joined
+pub mod Signs
+pub mod Words
+pub mod Names
+pub mod Plain
+pub mod Claims
+pub mod Reading
+pub mod Scan
+pub mod Steps
+pub mod Pointers

@@ -1,0 +1,2 @@
+pub mod RustText
+pub mod RustGrammar

@@ -1,5 +1,0 @@
-use Rattle.type_names.proofs.RustWhole as rust
-use Rattle.type_names.proofs.read.one_rust_name.Goals as goal
-
-pub returns : goal.returns
-returns c = rust.one_rust_name

@@ -1,7 +1,0 @@
-use Rattle.std.proofs.Common.{◌≡◌, drop}
-use Rattle.type_names.specs.Reading.{literal}
-use Rattle.type_names.proofs.rest.Rest.literal.Given as goal
-
--- what remains of the literal is read from here as the whole was from the start
-abbrev pub invariant-loop-byte : goal.invariant-loop-byte
-invariant-loop-byte l = (literal (drop l.byte-index l.bytes)).read l.self ≡ (literal l.bytes).read l.fn.self

@@ -1,9 +1,0 @@
-use Rattle.std.proofs.Common.{◌∙◌, sym}
-use Rattle.type_names.proofs.RustLaws.{holds_some, holds_none}
-use Rattle.type_names.proofs.rust_reader.holds.Goals as goal
-
-pub returns-then-inner-gt0 : goal.returns-then-inner-gt0
-returns-then-inner-gt0 c = c.is_within.ensures ∙ sym (holds_some c.args.inner c.args.member.now c.if-inner-gt0.true)
-
-pub returns-else-inner-gt0 : goal.returns-else-inner-gt0
-returns-else-inner-gt0 c = holds_none c.args.inner c.args.member.now c.if-inner-gt0.false

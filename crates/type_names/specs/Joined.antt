@@ -1,9 +1,0 @@
--- Texts with a separator between each two.
-use Rattle.std.specs.Prelude.{◌≡◌, ℕ, List, [], ◌∷◌, ◌++◌}
-
--- texts of the items, with a separator between each two
-abbrev pub IsJoined : {A : Type 0} → (A → List ℕ → Type 0) → List ℕ → List A → List ℕ → Type 0
-IsJoined Spells separator [] t = t ≡ []
-IsJoined Spells separator (x ∷ []) t = Spells x t
-IsJoined Spells separator (x ∷ y ∷ rest) t =
-    (a : List ℕ) × ((b : List ℕ) × (Spells x a × (IsJoined Spells separator (y ∷ rest) b × (t ≡ a ++ (separator ++ b)))))
