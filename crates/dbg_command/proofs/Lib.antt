@@ -8,3 +8,4 @@ pub mod OnePrint
 pub mod OneEnding
 pub mod SomeEnding
 pub mod Accepted
+pub mod SamePrint

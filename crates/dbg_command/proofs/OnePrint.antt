@@ -14,7 +14,8 @@ use Rattle.layout_values.specs.Contexts.{Items, Context, context_of}
 use Rattle.layout_values.specs.Outcomes.{OneValue, IsOutcome}
 use Rattle.layout_values.specs.Places.{place_of}
 use Rattle.layout_set.specs.Sizes.{size}
-use Rattle.dbg_command.specs.Lines.{IsShownAt, IsShownIn, IsStaticLine, IsVarLine, AreVarLines, IsFuncText, AreEach, Prints, static_line, var_line, func_line, pc_line, is_entered, is_called}
+use Rattle.layout_values.specs.Shown.{IsShownAt, IsShownIn}
+use Rattle.dbg_command.specs.Lines.{IsStaticLine, IsVarLine, AreVarLines, IsFuncText, AreEach, Prints, static_line, var_line, func_line, pc_line, is_entered, is_called}
 
 -- a part has one outcome
 one_outcome : OneValue → (c : Context) (depth : ℕ) (ty : TypeRef) (p : Items) (a b : Outcome) → IsOutcome c depth ty p a → IsOutcome c depth ty p b → a ≡ b

@@ -34,7 +34,8 @@ use Rattle.layout_reader.specs.declared.layout_err.LayoutErr.{LayoutErr}
 use Rattle.layout_reader.specs.declared.layout_err.LayoutErr.TheVariants as layout_errs
 use Rattle.layout_file.specs.Claims as layouts
 use Rattle.dbg_command.specs.Forms.{Form, check, text, form_of, layout_name}
-use Rattle.dbg_command.specs.Lines.{IsShownAt, IsShownIn, IsStaticLine, IsVarLine, AreVarLines, IsFuncText, AreEach, Prints, static_line, var_line, func_line, pc_line, is_entered, is_called}
+use Rattle.layout_values.specs.Shown.{IsShownAt, IsShownIn}
+use Rattle.dbg_command.specs.Lines.{IsStaticLine, IsVarLine, AreVarLines, IsFuncText, AreEach, Prints, static_line, var_line, func_line, pc_line, is_entered, is_called}
 use Rattle.dbg_command.specs.Answers.{Ending, Refuses, Puts, WithinLimit, WithFile, OfSnapshot, WithSnapshot, OfText, honesty_text, OfCheck, OfLawful, OfLaws, OfSet, OfRead, OfBytes, OfForm}
 use Rattle.dbg_command.specs.OneEnding.{SomeEnding}
 

@@ -5,3 +5,4 @@ pub mod Progress
 pub mod Lines
 pub mod Answers
 pub mod OneEnding
+pub mod SamePrint

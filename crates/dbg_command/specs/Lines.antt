@@ -1,8 +1,7 @@
 -- The printed lines.
-use Rattle.std.specs.Prelude.{◌≡◌, ℕ, nat_le, nat_lt, ◌&&◌, Bool, false, List, [], ◌∷◌, ◌++◌, Option, Some, None, codes}
+use Rattle.std.specs.Prelude.{◌≡◌, ℕ, nat_le, nat_lt, ◌&&◌, Bool, false, List, [], ◌∷◌, ◌++◌, codes}
 use Rattle.std.specs.List.{filter, list_any}
 use Rattle.readers.specs.Hex.{hex_text}
-use Rattle.snapshot_file.specs.Memory.{items_at}
 use Rattle.snapshot_file.specs.declared.snapshot.Snapshot.{Snapshot}
 use Rattle.rust_value.specs.Texts.{text_of}
 use Rattle.layout_set.specs.declared.func.Func.{Func}
@@ -10,14 +9,11 @@ use Rattle.layout_set.specs.declared.func.Scope.{Scope}
 use Rattle.layout_set.specs.declared.func.Var.{Var}
 use Rattle.layout_set.specs.declared.func.Zone.{Zone}
 use Rattle.layout_set.specs.declared.set.Set.{Set}
-use Rattle.layout_set.specs.declared.set.TypeRef.{TypeRef}
 use Rattle.layout_set.specs.declared.set.Static.{Static}
 use Rattle.layout_values.specs.declared.outcome.Outcome.{Outcome}
 use Rattle.layout_values.specs.declared.outcome.Outcome.TheVariants.{Value, Unavailable, Invalid, TooLarge}
-use Rattle.layout_values.specs.Contexts.{Items, Context, context_of}
-use Rattle.layout_values.specs.Outcomes.{IsOutcome}
-use Rattle.layout_values.specs.Places.{place_of}
-use Rattle.layout_set.specs.Sizes.{size}
+use Rattle.layout_values.specs.Contexts.{Context, context_of}
+use Rattle.layout_values.specs.Shown.{IsStaticShown, IsVarShown}
 use Rattle.layout_file.specs.Spellings.{name_text}
 
 -- what stands behind the ` = `
@@ -27,30 +23,20 @@ outcome_text Invalid = codes "<invalid>"
 outcome_text TooLarge = codes "<too large>"
 outcome_text (Value v) = text_of v
 
--- what is shown of a static of this type at this address: that of the bytes there; one without an address is unavailable
-abbrev pub IsShownAt : Context → ℕ → TypeRef → Option ℕ → Outcome → Type 0
-IsShownAt c depth ty (Some at) o = IsOutcome c depth ty (items_at c.memory at (size c.ptr c.types ty)) o
-IsShownAt c depth ty None o = o ≡ Unavailable
-
 -- names stand as in a layout file: a proper name in Rust's spelling, a raw one in quotes
 abbrev pub static_line : Static → Outcome → List ℕ
 static_line s o = codes "static " ++ name_text s.name ++ codes " = " ++ outcome_text o ++ 10 ∷ []
 
 -- the line of the static, with the outcome of the bytes at its address
 abbrev pub IsStaticLine : Context → ℕ → Static → List ℕ → Type 0
-IsStaticLine c depth s line = (o : Outcome) × IsShownAt c depth s.ty s.addr o × (line ≡ static_line s o)
-
--- what is shown of a variable of this type that has this part, if it has one
-abbrev pub IsShownIn : Context → ℕ → TypeRef → Option Items → Outcome → Type 0
-IsShownIn c depth ty (Some part) o = IsOutcome c depth ty part o
-IsShownIn c depth ty None o = o ≡ Unavailable
+IsStaticLine c depth s line = (o : Outcome) × IsStaticShown c depth s o × (line ≡ static_line s o)
 
 abbrev pub var_line : Var → Outcome → List ℕ
 var_line v o = codes "  " ++ v.name ++ codes " = " ++ outcome_text o ++ 10 ∷ []
 
 -- the line of the variable, with the outcome of what its first entry for the program counter gives
 abbrev pub IsVarLine : Context → Snapshot → ℕ → Var → List ℕ → Type 0
-IsVarLine c snap depth v line = (o : Outcome) × IsShownIn c depth v.ty (place_of c.ptr snap v.entries (size c.ptr c.types v.ty)) o × (line ≡ var_line v o)
+IsVarLine c snap depth v line = (o : Outcome) × IsVarShown c snap depth v o × (line ≡ var_line v o)
 
 -- a text for each item, in order
 abbrev pub AreEach : {A : Type 0} → (A → List ℕ → Type 0) → List A → List ℕ → Type 0

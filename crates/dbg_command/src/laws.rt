@@ -1,8 +1,9 @@
-//! Theorems on runs. These functions do nothing: their contracts are the theorems.
+//! Theorems on runs and on what they print. These functions do nothing: their contracts are the theorems.
 ghost use Rattle.layout_file.specs.Claims.{SpellOne, HaveReading as HaveLayoutReading, HaveNoFault as HaveNoLayoutError, HaveOneFault as HaveOneLayoutError};
 ghost use Rattle.snapshot_file.specs.Claims.{HaveReading as HaveSnapshotReading, HaveNoFault as HaveNoSnapshotError, HaveOneFault as HaveOneSnapshotError};
 ghost use Rattle.snapshot_file.specs.Snapshots.{OneSnapshot};
 ghost use Rattle.dbg_command.specs.OneEnding.{OneEnding, SomeEnding, AcceptedAreAnswered};
+ghost use Rattle.dbg_command.specs.SamePrint.{PrintsSame};
 
 use layout_set::a_set_has_at_most_one_first_breach;
 use value_reader::one_value;
@@ -71,3 +72,10 @@ pub fn accepted_files_are_answered()
     one_value();
     a_set_has_at_most_one_first_breach();
 }
+
+/// Where CodeView carries the place of each variable that is printed, a lawful set and the part of it that CodeView
+/// carries print the same.
+#[tactic(auto, using(crate::proofs::SamePrint::prints_same))]
+pub fn codeview_prints_the_same()
+    ensures { PrintsSame }
+{}

@@ -12,5 +12,8 @@ mod stop;
 mod view;
 
 pub use command::{Words, run};
-pub use laws::{a_run_has_an_ending, a_run_has_one_ending, accepted_files_are_answered};
+pub use laws::{
+    a_run_has_an_ending, a_run_has_one_ending, accepted_files_are_answered,
+    codeview_prints_the_same,
+};
 pub use printed::lines;

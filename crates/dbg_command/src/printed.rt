@@ -5,7 +5,8 @@ ghost use Rattle.layout_values.specs.Contexts.{context_of};
 ghost use Rattle.layout_set.specs.HasSizes.{HasSizes};
 ghost use Rattle.layout_set.specs.Law1.{IsWithin};
 ghost use Rattle.layout_values.specs.Outcomes.{HasTexts, IsOutcome};
-ghost use Rattle.dbg_command.specs.Lines.{AreEach, IsShownAt, IsStaticLine, Prints, pc_line, static_line};
+ghost use Rattle.layout_values.specs.Shown.{IsShownAt};
+ghost use Rattle.dbg_command.specs.Lines.{AreEach, IsStaticLine, Prints, pc_line, static_line};
 
 use crate::shown::put_outcome;
 use crate::view::View;

@@ -8,8 +8,9 @@ ghost use Rattle.layout_set.specs.HasSizes.{HasSizes};
 ghost use Rattle.layout_set.specs.Law1.{VarWithin, VarsWithin, HasVarsWithin};
 ghost use Rattle.layout_values.specs.Outcomes.{HasTexts};
 ghost use Rattle.layout_values.specs.Places.{place_of};
+ghost use Rattle.layout_values.specs.Shown.{IsVarShown};
 ghost use Rattle.layout_set.specs.Sizes.{size};
-ghost use Rattle.dbg_command.specs.Lines.{AreEach, AreVarLines, IsFuncText, IsShownIn, IsVarLine, func_line, var_line, is_in, is_entered, is_called, first_is_entered};
+ghost use Rattle.dbg_command.specs.Lines.{AreEach, AreVarLines, IsFuncText, IsVarLine, func_line, var_line, is_in, is_entered, is_called, first_is_entered};
 
 use crate::shown::put_outcome;
 use crate::view::View;
@@ -96,7 +97,7 @@ impl View<'_> {
         requires sizes { HasSizes self.now.set.now }
         requires within { VarWithin (length self.now.set.now.types) var.now }
         requires shallow { self.now.depth ≤ 4 }
-        ensures outcome { IfOk result (λ o. IsShownIn (context_of self.now.set.now self.now.snap.now.mem self.now.width) self.now.depth var.now.ty (place_of self.now.set.now.target.ptr self.now.snap.now var.now.entries (size self.now.set.now.target.ptr self.now.set.now.types var.now.ty)) o) }
+        ensures outcome { IfOk result (IsVarShown (context_of self.now.set.now self.now.snap.now.mem self.now.width) self.now.snap.now self.now.depth var.now) }
         ensures texts { IfOk result HasTexts }
     {
         match located(alloc, self.set, var, self.snap)? {

@@ -64,7 +64,8 @@ carried_type ptr (defs.Str name kind first) = defs.Str name kind (carried_ref pt
 carried_type ptr (defs.Dyn name kind first vtable) = defs.Dyn name kind (carried_ref ptr first) (carried_ref ptr vtable)
 carried_type ptr defs.FnPtr = defs.FnPtr
 carried_type ptr (defs.CLike name tag cases) = defs.CLike name (carried_tag_prim ptr tag) cases
-carried_type ptr (defs.Enum name size align params tag variants) = defs.Enum name size 0 [] (option_map (carried_tag ptr) tag) (map (carried_variant ptr) variants)
+carried_type ptr (defs.Enum name size align params tag variants) =
+    defs.Enum name size 0 [] (option_map (carried_tag ptr) tag) (map (carried_variant ptr) variants)
 carried_type ptr (defs.Bytes name size align) = defs.Bytes name size 0
 
 abbrev pub carried_static : ℕ → Static → Static
@@ -106,4 +107,8 @@ abbrev pub carried_func : ℕ → Func → Func
 carried_func ptr f = record f { frame = None; scopes = map (carried_scope ptr) f.scopes }
 
 abbrev pub carried : Set → Set
-carried set = record set { types = map (carried_type set.target.ptr) set.types; statics = map (carried_static set.target.ptr) set.statics; funcs = map (carried_func set.target.ptr) set.funcs }
+carried set = record set {
+  types = map (carried_type set.target.ptr) set.types;
+  statics = map (carried_static set.target.ptr) set.statics;
+  funcs = map (carried_func set.target.ptr) set.funcs;
+}

@@ -1,6 +1,8 @@
 //! What CodeView carries of a set.
 ghost use Rattle.std.specs.Prelude.{◌≡◌, IfOk, map};
 ghost use Rattle.layout_carried.specs.Carried.{carried_static, carried_var, carried_scope, carried_func, carried};
+ghost use Rattle.layout_carried.specs.ShowsSame.{ShowsSame};
+ghost use Rattle.layout_set.specs.IsSet.{IsSet};
 ghost use Rattle.layout_set.specs.Laws.{IsLawful};
 
 use crate::carried_places::carried_entries;
@@ -12,7 +14,14 @@ use std::alloc::Global;
 /// The part of a lawful set that CodeView carries.
 pub fn cv_part(alloc: Global, set: &Set) -> Result<Set, Memory>
     requires { IsLawful set.now }
-    ensures { IfOk result (λ part. part ≡ carried set.now) }
+    ensures part { IfOk result (λ part. part ≡ carried set.now) }
+
+    // It shows what the set shows of each static, and of each variable where it carries the entry.
+    ensures same { IfOk result (ShowsSame set.now) }
+
+    // It is lawful, and its names are Rust's or raw texts where those of the set are.
+    ensures lawful { IfOk result IsLawful }
+    ensures named { IsSet set.now → IfOk result IsSet }
 {
     let part = carried_set(alloc, set)?;
     Ok(part)

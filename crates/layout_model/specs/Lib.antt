@@ -36,4 +36,6 @@ pub use Rattle.layout_values.specs.Walk
 pub use Rattle.layout_values.specs.Reached
 pub use Rattle.layout_values.specs.Outcomes
 pub use Rattle.layout_values.specs.Places
+pub use Rattle.layout_values.specs.Shown
 pub use Rattle.layout_carried.specs.Carried
+pub use Rattle.layout_carried.specs.ShowsSame

@@ -7,3 +7,4 @@ pub mod Walk
 pub mod Reached
 pub mod Outcomes
 pub mod Places
+pub mod Shown

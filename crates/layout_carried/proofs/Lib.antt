@@ -1,0 +1,14 @@
+pub mod SameTypes
+pub mod SameWalks
+pub mod SameImages
+pub mod SameOutcomes
+pub mod SamePlaces
+pub mod SameShown
+pub mod Mapped
+pub mod KeptReferences
+pub mod KeptParts
+pub mod KeptNumbers
+pub mod KeptPlaces
+pub mod KeptCounts
+pub mod KeptNames
+pub mod KeptLaws
