@@ -1,11 +1,10 @@
 //! Public calls that no command reaches.
 mod abutting;
 
-use crate::difference::tell_difference;
-use crate::mistake::Mistake;
 use crate::setting::Setting;
 use crate::verdict::Verdict;
 pub use abutting::refused_pairs;
+use case_tables::{Mistake, tell_difference};
 use dbg_command::lines;
 use layout_file::LayoutErr;
 use layout_model::check_sound;

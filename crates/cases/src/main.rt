@@ -2,14 +2,10 @@
 #![tactic(auto)]
 
 mod calls;
-mod difference;
-mod lines;
-mod mistake;
 mod report;
 mod running;
 mod script;
 mod setting;
-mod tables;
 mod verdict;
 
 use report::Report;

@@ -1,9 +1,8 @@
 //! One case: the program over files and sinks in memory, or a public call; and how it ends otherwise than wanted.
 use crate::calls::{self, Stopped, refused_pairs};
-use crate::difference::tell_difference;
-use crate::mistake::Mistake;
-use crate::setting::{Call, Faults, Named, Setting};
+use crate::setting::{Call, Faults, Setting};
 use crate::verdict::{Output, Verdict};
+use case_tables::{Mistake, Named, tell_difference};
 use dbg_command::{Words, run};
 use rv_io::{Buf, File, List, MemInputs, MemSink, Memory, Text};
 use std::alloc::{AllocError, Global};

@@ -1,12 +1,12 @@
 //! Files of cases, line by line.
 mod ending;
 
-use crate::lines::{cut_line_end, number, put_hex, put_line, put_numbered, put_repeating};
-use crate::mistake::Mistake;
 use crate::report::Report;
 use crate::setting::Setting;
-use crate::tables::{self, Kind};
 use crate::verdict::{Output, Verdict};
+use case_tables::{
+    Kind, Mistake, complaint, cut_line_end, number, put_hex, put_line, put_numbered, put_repeating,
+};
 use std::alloc::{AllocError, Global};
 
 /// What the lines after a directive are.
@@ -120,7 +120,7 @@ impl Script {
             Block::Closed => return Err(Mistake::OutsideABlock),
             Block::Table(kind) => {
                 let files = self.setting.files.as_slice();
-                tables::complaint(self.alloc, *kind, files, line)?
+                complaint(self.alloc, *kind, files, line)?
             }
             Block::Rows(_) => self.row_complaint(line)?,
             _ => return Ok(put_line(&mut self.text, line)?),

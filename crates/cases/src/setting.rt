@@ -1,16 +1,8 @@
 //! What a case runs over: the words, the files, and the calls that fail.
-use crate::lines::{bytes_of_hex, number, pair};
-use crate::mistake::Mistake;
+use case_tables::{Mistake, Named, bytes_of_hex, number, pair};
 use rv_io::{Fail, List};
 use std::alloc::{AllocError, Global};
 use std::mem;
-
-/// A name, and the bytes of that name.
-#[derive(Drop)]
-pub struct Named {
-    pub name: String,
-    pub bytes: Vec<u8>,
-}
 
 /// The calls that fail in one case, counted from 0.
 #[derive(Drop)]

@@ -1,6 +1,5 @@
 //! What a case is to give.
-use crate::lines::{number, pair, put_line};
-use crate::mistake::Mistake;
+use case_tables::{Mistake, number, pair, put_line};
 use std::alloc::Global;
 
 /// The output that is wanted.

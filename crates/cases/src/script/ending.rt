@@ -1,9 +1,8 @@
 //! How blocks and cases end.
 use super::{Block, Script};
-use crate::lines::{pair, put_line};
-use crate::mistake::Mistake;
 use crate::running;
 use crate::verdict::{Output, Verdict};
+use case_tables::{Mistake, pair, put_line};
 use std::alloc::AllocError;
 use std::mem;
 

@@ -1,7 +1,7 @@
 //! Words of rows.
 use crate::lines::{bytes_of_hex, pair};
 use crate::mistake::Mistake;
-use crate::setting::Named;
+use crate::named::Named;
 use std::alloc::Global;
 
 /// The bytes of a word: of the file of this name, if one is set; none for `-`; else those of its hexadecimal digits.

@@ -1,8 +1,8 @@
 //! Abbreviation tables, the values of attributes, and texts by index.
 use crate::lines::number;
 use crate::mistake::Mistake;
-use crate::setting::Named;
-use crate::tables::words::{bytes_of, first, hex_of};
+use crate::named::Named;
+use crate::words::{bytes_of, first, hex_of};
 use dwarf_abbrev::{Abbrev, Attr, Spec, Table, form, put_table, read_attr, read_table};
 use dwarf_lists::indexed_text;
 use rv_bytes::{Cut, DwErr};

@@ -1,8 +1,8 @@
 //! Expressions and places, spelled as in a layout file, over the snapshot `s`.
 use crate::lines::number;
 use crate::mistake::Mistake;
-use crate::setting::Named;
-use crate::tables::words::set_file;
+use crate::named::Named;
+use crate::words::set_file;
 use expr_eval::{Ops, Spot, eval};
 use image_view::Image;
 use layout_file::LayoutErr;

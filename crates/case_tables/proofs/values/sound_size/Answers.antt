@@ -1,5 +1,5 @@
 use Rattle.layout_set.specs.Laws.{sound_laws}
-use Rattle.cases.proofs.tables.values.sound_size.Goals as goal
+use Rattle.case_tables.proofs.values.sound_size.Goals as goal
 
 -- the first three laws of a sound set
 pub size_of-requires-clause-sizes : goal.size_of-requires-clause-sizes

@@ -1,19 +1,10 @@
 //! Tables of public calls: a row `INPUT | WANTED` for each case.
-mod copies;
-mod dwarf;
-mod numbers;
-mod places;
-mod sets;
-mod spellings;
-mod values;
-mod words;
-
-use crate::difference;
 use crate::lines::pair;
 use crate::mistake::Mistake;
-use crate::setting::Named;
+use crate::named::Named;
+use crate::words::set_file;
+use crate::{copies, difference, dwarf, numbers, places, sets, spellings, values};
 use std::alloc::Global;
-use words::set_file;
 
 /// What the rows of a table are about. SECTION, BYTES and other words for bytes are hexadecimal digits, `-` for none, or the name of a
 /// file that is set.

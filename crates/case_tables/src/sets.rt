@@ -3,8 +3,8 @@ ghost use Rattle.std.specs.Prelude.{◌≡◌, ◌++◌, IfOk};
 ghost use Rattle.layout_set.specs.IsSet.{IsSet};
 
 use crate::mistake::Mistake;
-use crate::setting::Named;
-use crate::tables::words::{first, set_file};
+use crate::named::Named;
+use crate::words::{first, set_file};
 use layout_carried::cv_part;
 use layout_file::LayoutErr;
 use layout_model::check;

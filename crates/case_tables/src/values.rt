@@ -6,10 +6,10 @@ ghost use Rattle.rust_value.specs.Utf8.{has_texts};
 
 use crate::lines::{number, pair};
 use crate::mistake::Mistake;
-use crate::setting::Named;
-use crate::tables::places::snapshot_of;
-use crate::tables::sets::set_of;
-use crate::tables::words::{first, set_file};
+use crate::named::Named;
+use crate::places::snapshot_of;
+use crate::sets::set_of;
+use crate::words::{first, set_file};
 use image_view::Image;
 use layout_model::check_sound;
 use layout_set::{CheckErr, Set, TypeDef, TypeRef, size_of};

@@ -1,7 +1,7 @@
 //! Numbers in bytes, as they are written, and what is read at a place.
 use crate::lines::{number, pair};
 use crate::mistake::Mistake;
-use crate::tables::words::{bytes_of, first, hex_of};
+use crate::words::{bytes_of, first, hex_of};
 use rv_bytes::{
     Cut, CutErr, put_numeric, put_sleb, put_u8, put_u16, put_u32, put_u64, put_u128, put_uleb,
 };

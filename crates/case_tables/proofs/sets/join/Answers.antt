@@ -2,7 +2,7 @@ use Rattle.std.specs.Prelude.{IfSome}
 use Rattle.std.proofs.lemmas.List.Elements.{All-append}
 use Rattle.layout_set.specs.DerivedNames.{name_of}
 use Rattle.layout_set.specs.IsSet.{IsNamed}
-use Rattle.cases.proofs.tables.sets.join.Goals as goal
+use Rattle.case_tables.proofs.sets.join.Goals as goal
 
 pub returns : goal.returns
 returns c =

@@ -1,5 +1,5 @@
 use Rattle.layout_set.specs.Laws.{sound_laws}
-use Rattle.cases.proofs.tables.values.outcome.Goals as goal
+use Rattle.case_tables.proofs.values.outcome.Goals as goal
 
 -- the first three laws of a sound set
 pub read_value-requires-clause-sizes : goal.read_value-requires-clause-sizes
