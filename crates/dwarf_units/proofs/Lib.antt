@@ -1,0 +1,10 @@
+pub mod Lists
+pub mod Results
+pub mod Entries
+pub mod Follows
+pub mod Walks
+pub mod UnitReads
+pub mod KeptTables
+pub mod Bodies
+pub mod UnitSteps
+pub mod Rows

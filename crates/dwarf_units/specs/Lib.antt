@@ -1,0 +1,11 @@
+pub mod Rules
+pub mod Spots
+pub mod Entries
+pub mod Follows
+pub mod Ends
+pub mod Units
+pub mod EntryReaders
+pub mod UnitReaders
+pub mod Kept
+pub mod UnitCalls
+pub mod Laws
