@@ -1,0 +1,3 @@
+pub mod OneDescription
+pub mod ProperNames
+pub mod Rounds

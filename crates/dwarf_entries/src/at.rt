@@ -1,0 +1,51 @@
+//! The codes of attributes, named as the standard names them (DWARF 5, 7.5.4, table 7.5).
+
+pub const LOCATION: u64 = 0x02;
+
+pub const NAME: u64 = 0x03;
+
+pub const BYTE_SIZE: u64 = 0x0b;
+
+pub const BIT_SIZE: u64 = 0x0d;
+
+pub const LOW_PC: u64 = 0x11;
+
+pub const HIGH_PC: u64 = 0x12;
+
+pub const DISCR: u64 = 0x15;
+
+pub const DISCR_VALUE: u64 = 0x16;
+
+pub const CONST_VALUE: u64 = 0x1c;
+
+pub const ABSTRACT_ORIGIN: u64 = 0x31;
+
+pub const COUNT: u64 = 0x37;
+
+pub const DATA_MEMBER_LOCATION: u64 = 0x38;
+
+pub const DECLARATION: u64 = 0x3c;
+
+pub const DISCR_LIST: u64 = 0x3d;
+
+pub const ENCODING: u64 = 0x3e;
+
+pub const FRAME_BASE: u64 = 0x40;
+
+pub const SPECIFICATION: u64 = 0x47;
+
+pub const TYPE: u64 = 0x49;
+
+pub const RANGES: u64 = 0x55;
+
+pub const DATA_BIT_OFFSET: u64 = 0x6b;
+
+pub const STR_OFFSETS_BASE: u64 = 0x72;
+
+pub const ADDR_BASE: u64 = 0x73;
+
+pub const RNGLISTS_BASE: u64 = 0x74;
+
+pub const ALIGNMENT: u64 = 0x88;
+
+pub const LOCLISTS_BASE: u64 = 0x8c;

@@ -1,0 +1,2 @@
+pub mod OperandsExact
+pub mod Written

@@ -1,0 +1,11 @@
+pub mod Rules
+pub mod Codes
+pub mod Registers
+pub mod Layouts
+pub mod Operations
+pub mod Operands
+pub mod Places
+pub mod Runs
+pub mod Says
+pub mod Written
+pub mod Readers

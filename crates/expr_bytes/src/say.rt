@@ -1,0 +1,29 @@
+//! What an operation does on the stack (DWARF 5, 2.5).
+ghost use Rattle.std.specs.Prelude.{IfOk};
+ghost use Rattle.expr_bytes.specs.Operations.{oper_of};
+ghost use Rattle.expr_bytes.specs.Says.{OnStack};
+
+use crate::operation::Operation;
+use expr_eval::Op;
+use rv_io::{List, Memory};
+use snapshot_file::Reg;
+
+/// What an operation does on the stack is added; false where it is a place only by itself. Fails
+/// where memory runs out.
+pub fn add(ops: &mut List<Op>, oper: Operation<'_>) -> Result<bool, Memory>
+    ensures { IfOk result (OnStack ops.old ops.new (oper_of oper.entry)) }
+{
+    match oper {
+        Operation::Machine(op) => ops.push(op)?,
+        Operation::Address(address) => ops.push(Op::Const(address))?,
+        Operation::Based(reg, n) => ops.push(Op::RegPlus(reg, n))?,
+        Operation::Unframed(n) => ops.push(Op::RegPlus(Reg::Rbp, n))?,
+        Operation::CfaBased(n) => {
+            ops.push(Op::Cfa)?;
+            ops.push(Op::Const(n.cast_unsigned()))?;
+            ops.push(Op::Plus)?;
+        }
+        Operation::Register(_) | Operation::Value(_) => return Ok(false),
+    }
+    Ok(true)
+}
