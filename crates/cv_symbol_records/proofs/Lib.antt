@@ -1,0 +1,4 @@
+pub mod RangeForms
+pub mod SymbolForms
+pub mod SectionForms
+pub mod SectionReads

@@ -1,0 +1,3 @@
+pub mod MemberForms
+pub mod Contents
+pub mod Types
