@@ -14,24 +14,40 @@ use Rattle.layout_lines.specs.declared.open_entry.OpenEntry.{OpenEntry}
 use Rattle.layout_lines.specs.declared.line.Line.{Line}
 use Rattle.layout_lines.specs.declared.line.Line.TheVariants as lines
 use Rattle.layout_lines.specs.Lines.{line_text}
-use Rattle.layout_lines.specs.Sets.{type_lines, loc_lines, entry_lines, var_lines, scope_lines, func_lines, open_lines, lines_of, lines_before, texts, number_after, part_text, layout_text, text_before, head_text}
+use Rattle.layout_lines.specs.Sets.{
+  type_lines,
+  loc_lines,
+  entry_lines,
+  var_lines,
+  scope_lines,
+  func_lines,
+  open_lines,
+  lines_of,
+  lines_before,
+  texts,
+  number_after,
+  part_text,
+  layout_text,
+  text_before,
+  head_text,
+}
 use Rattle.layout_builder.specs.Additions.{Draft}
 use Rattle.layout_lines.proofs.Texts.{HasNoNumber, no_line, both, number_behind, texts-append, number_behind-append, number_behind_types, of_statics}
 use Rattle.layout_builder.proofs.Adding.{Advance}
 use Rattle.layout_lines.proofs.FuncTexts.{text_before_is, number_before}
 
 -- the text with one line more
-pub advance_text : (set : Set) (begun : Option OpenEntry) (l : Line) (d : Draft) → Advance set begun l d
-    → text_before d.0 d.1 ≡ text_before set begun ++ with_end (line_text (length set.types) l)
-advance_text set begun l d a =
+pub advance_text : (set : Set) (open_entry : Option OpenEntry) (l : Line) (d : Draft) → Advance set open_entry l d
+    → text_before d.0 d.1 ≡ text_before set open_entry ++ with_end (line_text (length set.types) l)
+advance_text set open_entry l d a =
     let head = head_text set.target.ptr in
-    let before = texts 0 (lines_before set begun) in
+    let before = texts 0 (lines_before set open_entry) in
     let line = with_end (line_text (length set.types) l) in
     text_before_is d.0 d.1
     ∙ ap (λ t. head_text t.ptr ++ texts 0 (lines_before d.0 d.1)) a.target
     ∙ ap (λ ls. head ++ texts 0 ls) a.lines
-    ∙ ap (λ t. head ++ t) (texts-append 0 (lines_before set begun) (l ∷ []))
-    ∙ ap (λ n. head ++ (before ++ (with_end (line_text n l) ++ []))) (number_before set begun)
+    ∙ ap (λ t. head ++ t) (texts-append 0 (lines_before set open_entry) (l ∷ []))
+    ∙ ap (λ n. head ++ (before ++ (with_end (line_text n l) ++ []))) (number_before set open_entry)
     ∙ ap (λ t. head ++ (before ++ t)) (append-nil line)
     ∙ sym (append_assoc head before line)
-    ∙ ap (λ t. t ++ line) (sym (text_before_is set begun))
+    ∙ ap (λ t. t ++ line) (sym (text_before_is set open_entry))

@@ -1,5 +1,29 @@
 -- The text of a set is that of no other, and goes on from the text of another by lines that may follow.
-use Rattle.std.proofs.Common.{◌≡◌, ◌∙◌, sym, ap, subst, refl, ℕ, ◌+◌, ◌<◌, ◌≤◌, ◌^◌, List, [], ◌∷◌, ◌++◌, length, append_assoc, Option, Some, None, IfSome, lit≤, arith}
+use Rattle.std.proofs.Common.{
+  ◌≡◌,
+  ◌∙◌,
+  sym,
+  ap,
+  subst,
+  refl,
+  ℕ,
+  ◌+◌,
+  ◌<◌,
+  ◌≤◌,
+  ◌^◌,
+  List,
+  [],
+  ◌∷◌,
+  ◌++◌,
+  length,
+  append_assoc,
+  Option,
+  Some,
+  None,
+  IfSome,
+  lit≤,
+  arith,
+}
 use Rattle.std.proofs.lemmas.List.{append-nil}
 use Rattle.std.proofs.lemmas.List.Elements.{All-head, All-tail, All-append}
 use Rattle.std.specs.List.{All}
@@ -10,7 +34,19 @@ use Rattle.layout_lines.specs.declared.open_entry.OpenEntry.{OpenEntry}
 use Rattle.layout_lines.specs.declared.line.Line.{Line}
 use Rattle.layout_lines.specs.declared.line.Line.TheVariants as lines
 use Rattle.layout_lines.specs.Lines.{line_text, IsLine}
-use Rattle.layout_lines.specs.Sets.{lines_of, lines_before, open_lines, open_parts, texts, number_after, head_text, layout_text, IsOpenEntry, Spells, SpellsBefore}
+use Rattle.layout_lines.specs.Sets.{
+  lines_of,
+  lines_before,
+  open_lines,
+  open_parts,
+  texts,
+  number_after,
+  head_text,
+  layout_text,
+  IsOpenEntry,
+  Spells,
+  SpellsBefore,
+}
 use Rattle.layout_builder.specs.Additions.{Draft, added}
 use Rattle.layout_builder.specs.LineCounts.{line_types}
 use Rattle.layout_builder.proofs.Adding.{Advance, IsReady, advances}
@@ -70,48 +106,57 @@ pub record GoesOn (a b : Draft) (text : List ℕ) : Type 0 where
   pub are_lines : All IsLine rest
   pub text_is : text ≡ texts (length a.0.types) rest
 
-pub goes_on : LinesAreKnown → (s a b : Draft) (before all : List Line) (text : List ℕ) → IsReady s → Leads s before a → Leads s all b → All IsLine before → All IsLine all → length b.0.types < 2 ^ 32
+pub goes_on : LinesAreKnown → (s a b : Draft) (before all : List Line) (text : List ℕ) → IsReady s → Leads s before a → Leads s all b → All IsLine before
+    → All IsLine all → length b.0.types < 2 ^ 32
     → texts (length s.0.types) before ++ text ≡ texts (length s.0.types) all → GoesOn a b text
 goes_on K s a b [] all text r p q hp hq room e = subst (λ x. GoesOn x b text) p (record { rest = all; leads = q; are_lines = hq; text_is = e })
 goes_on K s a b (l ∷ before) [] text r p q hp hq room e =
     let n = length s.0.types in
-    absurd (no_line (line_text n l) (texts (number_after n l) before ++ text) (sym e ∙ append_assoc (with_end (line_text n l)) (texts (number_after n l) before) text))
+    absurd (no_line (line_text n l) (texts (number_after n l) before ++ text) (sym e
+    ∙ append_assoc (with_end (line_text n l)) (texts (number_after n l) before) text))
 goes_on K s a b (l ∷ before) (m ∷ all) text r p q hp hq room e =
     let n = length s.0.types in
     let il = All-head IsLine l before hp in
     let im = All-head IsLine m all hq in
     let g = lines_grow s b (m ∷ all) r q hq in
     let small : n < 2 ^ 32 = let x = g.types in omega (arith, x, room) in
-    let cut = same_line (line_text n l) (line_text n m) (texts (number_after n l) before ++ text) (texts (number_after n m) all) (K.no_end n l small il) (K.no_end n m small im)
+    let cut = same_line (line_text n l) (line_text n m) (texts (number_after n l) before ++ text) (texts (number_after n m) all) (K.no_end n l small il)
+    (K.no_end n m small im)
     (sym (append_assoc (with_end (line_text n l)) (texts (number_after n l) before) text) ∙ e) in
     let same : l ≡ m = K.one_line n l m small il im cut.0 in
     let c = advances s.0 s.1 l p.0 il r in
     let number = next_number s l (added s.0 s.1 l) c in
-    goes_on K (added s.0 s.1 l) a b before all text c.ready p.1 (subst (λ x. Leads (added s.0 s.1 x) all b) (sym same) q.1) (All-tail IsLine l before hp) (All-tail IsLine m all hq) room
+    goes_on K (added s.0 s.1 l) a b before all text c.ready p.1 (subst (λ x. Leads (added s.0 s.1 x) all b) (sym same) q.1) (All-tail IsLine l before hp)
+    (All-tail IsLine m all hq) room
     (ap (λ k. texts k before ++ text) (sym number) ∙ cut.1 ∙ ap (λ x. texts (number_after n x) all) (sym same) ∙ ap (λ k. texts k all) number)
 
 few : (n : ℕ) → n ≤ 20000 → n < 2 ^ 32
 few n h = let e : 20001 ≤ 2 ^ 32 = lit≤ tt in omega arith
 
 -- what stands open behind a text that was spelled may stand there
-pub is_ready : (set : Set) (begun : Option OpenEntry) → IfSome begun (IsOpenEntry set) → IsReady (set, begun)
+pub is_ready : (set : Set) (open_entry : Option OpenEntry) → IfSome open_entry (IsOpenEntry set) → IsReady (set, open_entry)
 is_ready set None h = tt
 is_ready set (Some o) h = (h.stands, h.missing)
 
-pub before_are_lines : (set : Set) (begun : Option OpenEntry) → All IsLine (lines_of set) → IfSome begun (IsOpenEntry set) → All IsLine (lines_before set begun)
+pub before_are_lines : (set : Set) (open_entry : Option OpenEntry) → All IsLine (lines_of set) → IfSome open_entry (IsOpenEntry set)
+    → All IsLine (lines_before set open_entry)
 before_are_lines set None is h = subst (All IsLine) (sym (append-nil (lines_of set))) is
 before_are_lines set (Some o) is h = All-append IsLine (lines_of set) (open_lines (Some o)) is h.lines
 
 -- where a file begins with the text of a set and of an entry that stands open, and spells a set, the one goes on to the other
-pub file_goes_on : LinesAreKnown → (a : Set) (begun : Option OpenEntry) (b : Set) (before bytes text : List ℕ) → SpellsBefore a begun before → Spells b bytes → bytes ≡ before ++ text → GoesOn (a, begun) (b, None) text
-file_goes_on K a begun b before bytes text sa sb e =
-    let ls = lines_before a begun in
+pub file_goes_on : LinesAreKnown → (a : Set) (open_entry : Option OpenEntry) (b : Set) (before bytes text : List ℕ) → SpellsBefore a open_entry before
+    → Spells b bytes
+    → bytes ≡ before ++ text → GoesOn (a, open_entry) (b, None) text
+file_goes_on K a open_entry b before bytes text sa sb e =
+    let ls = lines_before a open_entry in
     let whole : head_text a.target.ptr ++ (texts 0 ls ++ text) ≡ head_text b.target.ptr ++ texts 0 (lines_of b) =
-    sym (append_assoc (head_text a.target.ptr) (texts 0 ls) text) ∙ ap (λ t. t ++ text) (sym (text_before_is a begun) ∙ sym sa.text_is) ∙ sym e ∙ sb.text in
+    sym (append_assoc (head_text a.target.ptr) (texts 0 ls) text) ∙ ap (λ t. t ++ text) (sym (text_before_is a open_entry) ∙ sym sa.text_is) ∙ sym e
+    ∙ sb.text in
     let cut = same_head a.target.ptr b.target.ptr (texts 0 ls ++ text) (texts 0 (lines_of b)) sa.items.target sb.items.target whole in
     let target : a.target ≡ b.target = ap (λ p. record { ptr = p }) cut.0 in
-    goes_on K (empty_set a.target, None) (a, begun) (b, None) ls (lines_of b) text tt (lines_before_lead a begun (is_ready a begun sa.entry)) (subst (λ t. Leads (empty_set t, None) (lines_of b) (b, None)) (sym target) (lines_lead b))
-    (before_are_lines a begun sa.items.lines sa.entry) sb.items.lines (few (length b.types) sb.bounded.types) cut.1
+    goes_on K (empty_set a.target, None) (a, open_entry) (b, None) ls (lines_of b) text tt (lines_before_lead a open_entry (is_ready a open_entry sa.entry))
+    (subst (λ t. Leads (empty_set t, None) (lines_of b) (b, None)) (sym target) (lines_lead b))
+    (before_are_lines a open_entry sa.items.lines sa.entry) sb.items.lines (few (length b.types) sb.bounded.types) cut.1
 
 -- no lines have no text
 no_lines : (a b : Draft) (next : ℕ) (rest : List Line) → Leads a rest b → [] ≡ texts next rest → a ≡ b

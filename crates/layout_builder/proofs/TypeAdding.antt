@@ -1,5 +1,29 @@
 -- What a type with one part more has: its lines and its counts.
-use Rattle.std.proofs.Common.{◌≡◌, ◌∙◌, sym, ap, refl, ◌+◌, ◌&&◌, Bool, true, false, if◌then◌else◌, List, [], ◌∷◌, ◌++◌, length, map, append_assoc, Option, Some, None, is_none, arith}
+use Rattle.std.proofs.Common.{
+  ◌≡◌,
+  ◌∙◌,
+  sym,
+  ap,
+  refl,
+  ◌+◌,
+  ◌&&◌,
+  Bool,
+  true,
+  false,
+  if◌then◌else◌,
+  List,
+  [],
+  ◌∷◌,
+  ◌++◌,
+  length,
+  map,
+  append_assoc,
+  Option,
+  Some,
+  None,
+  is_none,
+  arith,
+}
 use Rattle.std.proofs.lemmas.Grind.{flat_map-append}
 use Rattle.std.proofs.lemmas.List.{append-nil, map-append, length-append}
 use Rattle.std.proofs.lemmas.Bool.{not-true}
@@ -117,7 +141,8 @@ part_added (Struct name size align params fields) (lines.Field f) h =
     ap (λ ls. map (λ x. lines.Param x) params ++ ls) (one_more (λ x. lines.Field x) fields f)
     ∙ sym (append_assoc (map (λ x. lines.Param x) params) (map (λ x. lines.Field x) fields) (lines.Field f ∷ []))
 part_added (CLike name tag cases) (lines.Case c) h = one_more (λ x. lines.Case x) cases c
-part_added (Enum name size align params tag variants) (lines.Param p) h = param_first params p (tag_lines tag ++ flat_map variant_lines variants) (no_tag tag variants h)
+part_added (Enum name size align params tag variants) (lines.Param p) h =
+    param_first params p (tag_lines tag ++ flat_map variant_lines variants) (no_tag tag variants h)
 part_added (Enum name size align params tag variants) (lines.Tag t) h =
     ap (λ ls. map (λ x. lines.Param x) params ++ ls) (tag_first tag variants t h)
     ∙ sym (append_assoc (map (λ x. lines.Param x) params) (tag_lines tag ++ flat_map variant_lines variants) (lines.Tag t ∷ []))
@@ -148,14 +173,16 @@ same_bare def l h = absurd (cc)
 type_added : (def : TypeDef) (l : Line) → may_go_on def (kind_of_line l) ≡ true → type_lines (with_part l def) ≡ type_lines def ++ l ∷ []
 type_added def l h = ap (λ d. lines.Type d ∷ part_lines (with_part l def)) (same_bare def l h) ∙ ap (λ ls. lines.Type (bare def) ∷ ls) (part_added def l h)
 
-pub types_added : (types : List TypeDef) (l : Line) → last_may_go_on (last_of types) (kind_of_line l) ≡ true → flat_map type_lines (with_last (with_part l) types) ≡ flat_map type_lines types ++ l ∷ []
+pub types_added : (types : List TypeDef) (l : Line) → last_may_go_on (last_of types) (kind_of_line l) ≡ true
+    → flat_map type_lines (with_last (with_part l) types) ≡ flat_map type_lines types ++ l ∷ []
 types_added [] l h = absurd (cc)
 types_added (def ∷ []) l h =
     append-nil (type_lines (with_part l def)) ∙ type_added def l h ∙ ap (λ ls. ls ++ l ∷ []) (sym (append-nil (type_lines def)))
 types_added (def ∷ d ∷ types) l h =
     ap (λ ls. type_lines def ++ ls) (types_added (d ∷ types) l h) ∙ sym (append_assoc (type_lines def) (flat_map type_lines (d ∷ types)) (l ∷ []))
 
-field_counted : (variants : List Variant) (f : Field) → is_empty variants ≡ false → sum_by variant_parts (with_last (with_field f) variants) ≡ sum_by variant_parts variants + 1
+field_counted : (variants : List Variant) (f : Field) → is_empty variants ≡ false → sum_by variant_parts (with_last (with_field f) variants)
+    ≡ sum_by variant_parts variants + 1
 field_counted [] f h = absurd (cc)
 field_counted (v ∷ []) f h = omega (arith, length-append v.fields (f ∷ []))
 field_counted (v ∷ w ∷ variants) f h =
@@ -177,7 +204,8 @@ part_counted (Enum name size align params tag variants) (lines.Field f) h = omeg
 part_counted def (lines.Var v) h = absurd (var_is_no_part def v.param h)
 part_counted def l h = absurd (cc)
 
-pub parts_counted : (types : List TypeDef) (l : Line) → last_may_go_on (last_of types) (kind_of_line l) ≡ true → sum_by parts_of (with_last (with_part l) types) ≡ sum_by parts_of types + line_parts l
+pub parts_counted : (types : List TypeDef) (l : Line) → last_may_go_on (last_of types) (kind_of_line l) ≡ true → sum_by parts_of (with_last (with_part l) types)
+    ≡ sum_by parts_of types + line_parts l
 parts_counted [] l h = absurd (cc)
 parts_counted (def ∷ []) l h = omega (arith, part_counted def l h)
 parts_counted (def ∷ d ∷ types) l h =

@@ -1,8 +1,31 @@
 -- A list whose last item is changed.
-use Rattle.std.proofs.Common.{◌≡◌, ◌∙◌, sym, ap, refl, ℕ, suc, ◌-◌, ◌+◌, length, slice_get, arith, List, [], ◌∷◌, ◌++◌, append_assoc, Some, false}
+use Rattle.std.proofs.Common.{
+  ◌≡◌,
+  ◌∙◌,
+  sym,
+  ap,
+  refl,
+  ℕ,
+  suc,
+  ◌-◌,
+  ◌+◌,
+  length,
+  arith,
+  List,
+  [],
+  ◌∷◌,
+  ◌++◌,
+  append_assoc,
+  Some,
+  Result,
+  OnOk,
+  slice_set,
+  slice_index_or,
+}
 use Rattle.std.proofs.lemmas.List.{append-nil}
 use Rattle.std.proofs.lemmas.Option.{same_Some}
 use Rattle.std.proofs.lemmas.List.Sums.{sum_by-cons}
+use Rattle.std.proofs.lemmas.Result.{on_ok_weaker}
 use Rattle.std.specs.List.{flat_map, sum_by}
 use Rattle.layout_lines.specs.Sets.{last_of}
 use Rattle.layout_builder.specs.Additions.{with_last}
@@ -12,8 +35,25 @@ with_last_end f [] x = refl
 with_last_end f (y ∷ []) x = refl
 with_last_end f (y ∷ z ∷ xs) x = ap (λ l. y ∷ l) (with_last_end f (z ∷ xs) x)
 
-pub with_last_popped : {A : Type 0} (f : A → A) (all rest : List A) (x : A) → all ≡ rest ++ x ∷ [] → with_last f all ≡ rest ++ f x ∷ []
-with_last_popped f all rest x e = ap (with_last f) e ∙ with_last_end f rest x
+-- the last item is written over with what it is changed to
+pub with_last_set : {A : Type 0} (f : A → A) (xs : List A) (x : A) → x ≡ slice_index_or xs (length xs - 1) x
+    → slice_set xs (length xs - 1) (f x) ≡ with_last f xs
+with_last_set f [] x e = refl
+with_last_set f (y ∷ []) x e = ap (λ a. f a ∷ []) e
+with_last_set f (y ∷ z ∷ ys) x e =
+    let a : suc (length ys) - 1 ≡ length ys = omega arith in
+    let b : suc (suc (length ys)) - 1 ≡ suc (length ys) = omega arith in
+    ap (λ k. slice_set (y ∷ z ∷ ys) k (f x)) b
+    ∙ ap (λ k. y ∷ slice_set (z ∷ ys) k (f x)) (sym a)
+    ∙ ap (λ l. y ∷ l)
+    (with_last_set f (z ∷ ys) x (e ∙ ap (λ k. slice_index_or (y ∷ z ∷ ys) k x) b ∙ ap (λ k. slice_index_or (z ∷ ys) k x) (sym a)))
+
+-- the same where only a part of it is written, by a call that may have failed
+pub last_part_written : {A B C E : Type 0} (r : Result C E) (f : A → A) (xs : List A) (x : A) (new wanted : B) (whole : B → A)
+    → x ≡ slice_index_or xs (length xs - 1) x → whole wanted ≡ f x → OnOk r (new ≡ wanted)
+    → OnOk r (slice_set xs (length xs - 1) (whole new) ≡ with_last f xs)
+last_part_written r f xs x new wanted whole e same h =
+    on_ok_weaker r (λ p. ap (λ b. slice_set xs (length xs - 1) (whole b)) p ∙ ap (slice_set xs (length xs - 1)) same ∙ with_last_set f xs x e) h
 
 pub length_with_last : {A : Type 0} (f : A → A) (xs : List A) → length (with_last f xs) ≡ length xs
 length_with_last f [] = refl

@@ -82,12 +82,12 @@ piece_added set (Some o) p = settled set (record o { pieces = o.pieces ++ p ∷ 
 
 -- what the line makes of the set and the entry that stands open, where it may follow
 abbrev pub added : Set → Option OpenEntry → Line → Draft
-added set begun (lines.Type def) = (record set { types = set.types ++ def ∷ [] }, begun)
-added set begun (lines.Static s) = (record set { statics = set.statics ++ s ∷ [] }, begun)
-added set begun (lines.Func f) = (record set { funcs = set.funcs ++ f ∷ [] }, begun)
-added set begun (lines.Scope s) = (record set { funcs = with_last (with_scope s) set.funcs }, begun)
-added set begun (lines.Var v) = (record set { funcs = with_last (with_var_in_func v) set.funcs }, begun)
-added set begun (lines.Whole lo hi place) = (entry_added set (record { lo = lo; hi = hi; loc = Whole place }), begun)
-added set begun (lines.Pieces lo hi count) = settled set (record { lo = lo; hi = hi; count = count; pieces = [] })
-added set begun (lines.Piece p) = piece_added set begun p
-added set begun line = (record set { types = with_last (with_part line) set.types }, begun)
+added set open_entry (lines.Type def) = (record set { types = set.types ++ def ∷ [] }, open_entry)
+added set open_entry (lines.Static s) = (record set { statics = set.statics ++ s ∷ [] }, open_entry)
+added set open_entry (lines.Func f) = (record set { funcs = set.funcs ++ f ∷ [] }, open_entry)
+added set open_entry (lines.Scope s) = (record set { funcs = with_last (with_scope s) set.funcs }, open_entry)
+added set open_entry (lines.Var v) = (record set { funcs = with_last (with_var_in_func v) set.funcs }, open_entry)
+added set open_entry (lines.Whole lo hi place) = (entry_added set (record { lo = lo; hi = hi; loc = Whole place }), open_entry)
+added set open_entry (lines.Pieces lo hi count) = settled set (record { lo = lo; hi = hi; count = count; pieces = [] })
+added set open_entry (lines.Piece p) = piece_added set open_entry p
+added set open_entry line = (record set { types = with_last (with_part line) set.types }, open_entry)

@@ -1,11 +1,11 @@
 //! Sets with one line more.
-ghost use Rattle.std.specs.Prelude.{◌≡◌, ◌++◌, ◌∷◌, [], IfOk};
-ghost use Rattle.layout_builder.specs.Additions.{added, settled, piece_added, entry_added, with_last, with_part, with_scope, with_var_in_func};
+ghost use Rattle.std.specs.Prelude.{◌≡◌, IfOk};
+ghost use Rattle.layout_builder.specs.Additions.{added, settled, piece_added};
 
-use crate::func_addition::{with_last_entry, with_last_scope, with_last_var};
-use crate::type_addition::with_last;
+use crate::func_addition::{add_entry, add_scope, add_var};
+use crate::type_addition::add_part;
 use layout_lines::{Line, OpenEntry};
-use layout_set::{Entry, Func, Loc, Piece, Scope, Set, Static, TypeDef, Var};
+use layout_set::{Entry, Loc, Piece, Set};
 use rv_io::{List, Memory};
 use std::alloc::Global;
 
@@ -13,20 +13,37 @@ use std::alloc::Global;
 pub fn added(
     alloc: Global,
     set: Set,
-    begun: Option<OpenEntry>,
+    open_entry: Option<OpenEntry>,
     line: Line,
 ) -> Result<(Set, Option<OpenEntry>), Memory>
-    ensures { IfOk result (λ d. d ≡ added set begun line) }
+    ensures { IfOk result (λ d. d ≡ added set open_entry line) }
 {
+    let mut set = set;
     match line {
-        Line::Type(def) => Ok((with_type(set, def)?, begun)),
-        Line::Static(item) => Ok((with_static(set, item)?, begun)),
-        Line::Func(func) => Ok((with_func(set, func)?, begun)),
-        Line::Scope(scope) => Ok((with_scope(set, scope)?, begun)),
-        Line::Var(var) => Ok((with_var(set, var)?, begun)),
+        Line::Type(def) => {
+            set.types.push(def)?;
+            Ok((set, open_entry))
+        }
+        Line::Static(item) => {
+            set.statics.push(item)?;
+            Ok((set, open_entry))
+        }
+        Line::Func(func) => {
+            set.funcs.push(func)?;
+            Ok((set, open_entry))
+        }
+        Line::Scope(scope) => {
+            add_scope(&mut set.funcs, scope)?;
+            Ok((set, open_entry))
+        }
+        Line::Var(var) => {
+            add_var(&mut set.funcs, var)?;
+            Ok((set, open_entry))
+        }
         Line::Whole(lo, hi, place) => {
             let loc = Loc::Whole(place);
-            Ok((entry_added(set, Entry { lo, hi, loc })?, begun))
+            add_entry(&mut set.funcs, Entry { lo, hi, loc })?;
+            Ok((set, open_entry))
         }
         Line::Pieces(lo, hi, count) => {
             let pieces = List::new(alloc);
@@ -40,184 +57,39 @@ pub fn added(
                 },
             )
         }
-        Line::Piece(piece) => piece_added(set, begun, piece),
-        part => Ok((with_part(set, part)?, begun)),
+        Line::Piece(piece) => piece_added(set, open_entry, piece),
+        part => {
+            add_part(alloc, &mut set.types, part)?;
+            Ok((set, open_entry))
+        }
     }
-}
-
-fn with_type(set: Set, def: TypeDef) -> Result<Set, Memory>
-    ensures { IfOk result (λ s. s ≡ record set { types = set.types ++ def ∷ [] }) }
-{
-    let Set {
-        target,
-        mut types,
-        statics,
-        funcs,
-    } = set;
-    types.push(def)?;
-    Ok(Set {
-        target,
-        types,
-        statics,
-        funcs,
-    })
-}
-
-/// The set, its last type with the part.
-fn with_part(set: Set, part: Line) -> Result<Set, Memory>
-    ensures { IfOk result (λ s. s ≡ record set { types = with_last (with_part part) set.types }) }
-{
-    let Set {
-        target,
-        types,
-        statics,
-        funcs,
-    } = set;
-    let types = with_last(types, part)?;
-    Ok(Set {
-        target,
-        types,
-        statics,
-        funcs,
-    })
-}
-
-fn with_static(set: Set, item: Static) -> Result<Set, Memory>
-    ensures { IfOk result (λ s. s ≡ record set { statics = set.statics ++ item ∷ [] }) }
-{
-    let Set {
-        target,
-        types,
-        mut statics,
-        funcs,
-    } = set;
-    statics.push(item)?;
-    Ok(Set {
-        target,
-        types,
-        statics,
-        funcs,
-    })
-}
-
-fn with_func(set: Set, func: Func) -> Result<Set, Memory>
-    ensures { IfOk result (λ s. s ≡ record set { funcs = set.funcs ++ func ∷ [] }) }
-{
-    let Set {
-        target,
-        types,
-        statics,
-        mut funcs,
-    } = set;
-    funcs.push(func)?;
-    Ok(Set {
-        target,
-        types,
-        statics,
-        funcs,
-    })
-}
-
-/// The set, its last function with the scope.
-fn with_scope(set: Set, scope: Scope) -> Result<Set, Memory>
-    ensures { IfOk result (λ s. s ≡ record set { funcs = with_last (with_scope scope) set.funcs }) }
-{
-    let Set {
-        target,
-        types,
-        statics,
-        funcs,
-    } = set;
-    let funcs = with_last_scope(funcs, scope)?;
-    Ok(Set {
-        target,
-        types,
-        statics,
-        funcs,
-    })
-}
-
-/// The set, the last scope of its last function with the variable.
-fn with_var(set: Set, var: Var) -> Result<Set, Memory>
-    ensures { IfOk result (λ s. s ≡ record set { funcs = with_last (with_var_in_func var) set.funcs }) }
-{
-    let Set {
-        target,
-        types,
-        statics,
-        funcs,
-    } = set;
-    let funcs = with_last_var(funcs, var)?;
-    Ok(Set {
-        target,
-        types,
-        statics,
-        funcs,
-    })
-}
-
-/// The set, its last variable with the entry.
-fn entry_added(set: Set, entry: Entry) -> Result<Set, Memory>
-    ensures { IfOk result (λ s. s ≡ entry_added set entry) }
-{
-    let Set {
-        target,
-        types,
-        statics,
-        funcs,
-    } = set;
-    let funcs = with_last_entry(funcs, entry)?;
-    Ok(Set {
-        target,
-        types,
-        statics,
-        funcs,
-    })
 }
 
 /// The set with the entry, if no piece of it is missing, or both.
-fn settled(set: Set, begun: OpenEntry) -> Result<(Set, Option<OpenEntry>), Memory>
-    ensures { IfOk result (λ d. d ≡ settled set begun) }
+fn settled(set: Set, open_entry: OpenEntry) -> Result<(Set, Option<OpenEntry>), Memory>
+    ensures { IfOk result (λ d. d ≡ settled set open_entry) }
 {
-    if begun.pieces.as_slice().len() != begun.count as usize {
-        return Ok((set, Some(begun)));
+    if open_entry.pieces.as_slice().len() != open_entry.count as usize {
+        return Ok((set, Some(open_entry)));
     }
-    let OpenEntry {
-        lo,
-        hi,
-        count: _,
-        pieces,
-    } = begun;
+    let mut set = set;
+    let OpenEntry { lo, hi, pieces, .. } = open_entry;
     let loc = Loc::Pieces(pieces);
-    let set = entry_added(set, Entry { lo, hi, loc })?;
+    add_entry(&mut set.funcs, Entry { lo, hi, loc })?;
     Ok((set, None))
 }
 
 /// The set and the entry that stands open with one more piece of it.
 fn piece_added(
     set: Set,
-    begun: Option<OpenEntry>,
+    open_entry: Option<OpenEntry>,
     piece: Piece,
 ) -> Result<(Set, Option<OpenEntry>), Memory>
-    ensures { IfOk result (λ d. d ≡ piece_added set begun piece) }
+    ensures { IfOk result (λ d. d ≡ piece_added set open_entry piece) }
 {
-    let Some(begun) = begun else {
+    let Some(mut open_entry) = open_entry else {
         return Ok((set, None));
     };
-    let OpenEntry {
-        lo,
-        hi,
-        count,
-        mut pieces,
-    } = begun;
-    pieces.push(piece)?;
-    settled(
-        set,
-        OpenEntry {
-            lo,
-            hi,
-            count,
-            pieces,
-        },
-    )
+    open_entry.pieces.push(piece)?;
+    settled(set, open_entry)
 }

@@ -6,6 +6,7 @@ ghost use Rattle.layout_builder.specs.LineCounts.{line_types, line_parts, line_v
 use layout_lines::Line;
 use layout_set::{Piece, Place};
 
+/// How many types: one or none.
 pub fn types_in(line: &Line) -> usize
     ensures { result ≡ line_types line.now }
 {
@@ -29,7 +30,7 @@ pub fn parts_in(line: &Line) -> usize
     }
 }
 
-/// How many operations the place is told by, at most 64.
+/// How many operations the place has, at most 64.
 fn place_parts(place: &Place) -> usize
     ensures count { result ≡ place_parts place.now }
     ensures few { result ≤ 64 }

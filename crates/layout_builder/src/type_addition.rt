@@ -1,227 +1,101 @@
 //! Types with one part more.
-ghost use Rattle.std.specs.Prelude.{◌≡◌, IfOk};
+ghost use Rattle.std.specs.Prelude.{◌≡◌, OnOk};
 ghost use Rattle.layout_lines.specs.declared.line.Line.TheVariants as lines;
-ghost use Rattle.layout_builder.specs.Additions.{with_last, with_part, with_field, with_variant};
+ghost use Rattle.layout_builder.specs.Additions.{with_last, with_part, with_field};
 
 use layout_lines::Line;
 use layout_set::{Case, Field, Param, Selector, Tag, TypeDef, Variant};
 use names::Word;
 use rv_io::{List, Memory};
+use std::alloc::Global;
 
-/// The types, the last with the part.
-pub(crate) fn with_last(types: List<TypeDef>, part: Line) -> Result<List<TypeDef>, Memory>
-    ensures { IfOk result (λ ts. ts ≡ with_last (with_part part) types) }
+/// Adds the part to the last type.
+pub(crate) fn add_part(alloc: Global, types: &mut List<TypeDef>, part: Line) -> Result<(), Memory>
+    ensures { OnOk result (types.new ≡ with_last (with_part part) types.old) }
 {
-    let mut types = types.into_vec();
-    match types.pop() {
-        None => Ok(List::from_vec(types)),
-        Some(last) => {
-            let last = with_part(last, part)?;
-            types.push(last)?;
-            Ok(List::from_vec(types))
-        }
+    match types.last_mut() {
+        Some(def) => add_part_of_type(alloc, def, part),
+        None => Ok(()),
     }
 }
 
-/// The type with the part.
-fn with_part(def: TypeDef, part: Line) -> Result<TypeDef, Memory>
-    ensures { IfOk result (λ d. d ≡ with_part part def) }
+/// Adds the part to the type, where it may be the next one.
+fn add_part_of_type(alloc: Global, def: &mut TypeDef, part: Line) -> Result<(), Memory>
+    ensures { OnOk result (def.new ≡ with_part part def.old) }
 {
     match part {
-        Line::Param(param) => with_param(def, param),
-        Line::Field(field) => with_field_of_type(def, field),
-        Line::Case(case) => with_case(def, case),
-        Line::Tag(tag) => Ok(with_tag(def, tag)),
-        Line::Variant(name, sel) => with_variant_of_type(def, name, sel),
-        other => {
-            drop(other);
-            Ok(def)
+        Line::Param(param) => add_param(def, param),
+        Line::Field(field) => add_field(def, field),
+        Line::Case(case) => add_case(def, case),
+        Line::Tag(tag) => {
+            set_tag(def, tag);
+            Ok(())
         }
+        Line::Variant(name, sel) => add_variant(alloc, def, name, sel),
+        _ => Ok(()),
     }
 }
 
-fn with_param(def: TypeDef, param: Param) -> Result<TypeDef, Memory>
-    ensures { IfOk result (λ d. d ≡ with_part (lines.Param param) def) }
+/// Adds a parameter to a struct or an enum.
+fn add_param(def: &mut TypeDef, param: Param) -> Result<(), Memory>
+    ensures { OnOk result (def.new ≡ with_part (lines.Param param) def.old) }
 {
     match def {
-        TypeDef::Struct {
-            name,
-            size,
-            align,
-            mut params,
-            fields,
-        } => {
-            params.push(param)?;
-            Ok(TypeDef::Struct {
-                name,
-                size,
-                align,
-                params,
-                fields,
-            })
-        }
-        TypeDef::Enum {
-            name,
-            size,
-            align,
-            mut params,
-            tag,
-            variants,
-        } => {
-            params.push(param)?;
-            Ok(TypeDef::Enum {
-                name,
-                size,
-                align,
-                params,
-                tag,
-                variants,
-            })
-        }
-        other => Ok(other),
+        TypeDef::Struct { params, .. } => params.push(param),
+        TypeDef::Enum { params, .. } => params.push(param),
+        _ => Ok(()),
     }
 }
 
-fn with_field_of_type(def: TypeDef, field: Field) -> Result<TypeDef, Memory>
-    ensures { IfOk result (λ d. d ≡ with_part (lines.Field field) def) }
+/// Adds a field to a struct, or to the last variant of an enum.
+fn add_field(def: &mut TypeDef, field: Field) -> Result<(), Memory>
+    ensures { OnOk result (def.new ≡ with_part (lines.Field field) def.old) }
 {
     match def {
-        TypeDef::Struct {
-            name,
-            size,
-            align,
-            params,
-            mut fields,
-        } => {
-            fields.push(field)?;
-            Ok(TypeDef::Struct {
-                name,
-                size,
-                align,
-                params,
-                fields,
-            })
-        }
-        TypeDef::Enum {
-            name,
-            size,
-            align,
-            params,
-            tag,
-            variants,
-        } => {
-            let variants = with_last_field(variants, field)?;
-            Ok(TypeDef::Enum {
-                name,
-                size,
-                align,
-                params,
-                tag,
-                variants,
-            })
-        }
-        other => Ok(other),
+        TypeDef::Struct { fields, .. } => fields.push(field),
+        TypeDef::Enum { variants, .. } => add_field_to_variants(variants, field),
+        _ => Ok(()),
     }
 }
 
-fn with_case(def: TypeDef, case: Case) -> Result<TypeDef, Memory>
-    ensures { IfOk result (λ d. d ≡ with_part (lines.Case case) def) }
+/// Adds a case to an enum without fields.
+fn add_case(def: &mut TypeDef, case: Case) -> Result<(), Memory>
+    ensures { OnOk result (def.new ≡ with_part (lines.Case case) def.old) }
 {
     match def {
-        TypeDef::CLike {
-            name,
-            tag,
-            mut cases,
-        } => {
-            cases.push(case)?;
-            Ok(TypeDef::CLike { name, tag, cases })
-        }
-        other => Ok(other),
+        TypeDef::CLike { cases, .. } => cases.push(case),
+        _ => Ok(()),
     }
 }
 
-fn with_tag(def: TypeDef, tag: Tag) -> TypeDef
-    ensures { result ≡ with_part (lines.Tag tag) def }
+/// Gives an enum its tag.
+fn set_tag(def: &mut TypeDef, chosen: Tag)
+    ensures { def.new ≡ with_part (lines.Tag chosen) def.old }
+{
+    if let TypeDef::Enum { tag, .. } = def {
+        *tag = Some(chosen);
+    }
+}
+
+/// Adds a variant without fields to an enum.
+fn add_variant(alloc: Global, def: &mut TypeDef, name: Word, sel: Selector) -> Result<(), Memory>
+    ensures { OnOk result (def.new ≡ with_part (lines.Variant name sel) def.old) }
 {
     match def {
-        TypeDef::Enum {
-            name,
-            size,
-            align,
-            params,
-            tag: _,
-            variants,
-        } => TypeDef::Enum {
-            name,
-            size,
-            align,
-            params,
-            tag: Some(tag),
-            variants,
-        },
-        other => other,
-    }
-}
-
-fn with_variant_of_type(def: TypeDef, word: Word, sel: Selector) -> Result<TypeDef, Memory>
-    ensures { IfOk result (λ d. d ≡ with_part (lines.Variant word sel) def) }
-{
-    match def {
-        TypeDef::Enum {
-            name,
-            size,
-            align,
-            params,
-            tag,
-            variants,
-        } => {
-            let variants = with_variant(variants, word, sel)?;
-            Ok(TypeDef::Enum {
-                name,
-                size,
-                align,
-                params,
-                tag,
-                variants,
-            })
+        TypeDef::Enum { variants, .. } => {
+            let fields = List::new(alloc);
+            variants.push(Variant { name, sel, fields })
         }
-        other => Ok(other),
+        _ => Ok(()),
     }
 }
 
-/// The variants, and one more without fields.
-fn with_variant(variants: List<Variant>, name: Word, sel: Selector) -> Result<List<Variant>, Memory>
-    ensures { IfOk result (λ vs. vs ≡ with_variant name sel variants) }
+/// Adds the field to the last variant.
+fn add_field_to_variants(variants: &mut List<Variant>, field: Field) -> Result<(), Memory>
+    ensures { OnOk result (variants.new ≡ with_last (with_field field) variants.old) }
 {
-    let mut variants = variants.into_vec();
-    let fields = List::new(*variants.allocator());
-    variants.push(Variant { name, sel, fields })?;
-    Ok(List::from_vec(variants))
-}
-
-/// The variants, the last with the field.
-fn with_last_field(variants: List<Variant>, field: Field) -> Result<List<Variant>, Memory>
-    ensures { IfOk result (λ vs. vs ≡ with_last (with_field field) variants) }
-{
-    let mut variants = variants.into_vec();
-    match variants.pop() {
-        None => Ok(List::from_vec(variants)),
-        Some(last) => {
-            let last = with_field(last, field)?;
-            variants.push(last)?;
-            Ok(List::from_vec(variants))
-        }
+    match variants.last_mut() {
+        Some(variant) => variant.fields.push(field),
+        None => Ok(()),
     }
-}
-
-fn with_field(variant: Variant, field: Field) -> Result<Variant, Memory>
-    ensures { IfOk result (λ v. v ≡ with_field field variant) }
-{
-    let Variant {
-        name,
-        sel,
-        mut fields,
-    } = variant;
-    fields.push(field)?;
-    Ok(Variant { name, sel, fields })
 }

@@ -1,5 +1,6 @@
 -- Each text has a first line or no end of one, and each line is refused or goes on from what was read.
-use Rattle.std.proofs.Common.{◌≡◌, ◌≢◌, ap, refl, ℕ, ◌+◌, ◌<◌, ◌≤◌, ◌==◌, ◌⊎◌, inl, inr, Bool, true, false, List, [], ◌∷◌, length, Option, Some, None, eqb-true, arith}
+use Rattle.std.proofs.Common.{◌≡◌, ◌≢◌, ap, refl, ℕ, ◌+◌, ◌<◌, ◌≤◌, ◌==◌, ◌⊎◌, inl, inr, Bool, true, false, List, [], ◌∷◌, length, Option, Some, None}
+use Rattle.std.proofs.Common.{eqb-true, arith}
 use Rattle.std.proofs.lemmas.Bool.{cases_lt}
 use Rattle.std.proofs.lemmas.List.Elements.{All-nil, All-cons}
 use Rattle.readers.specs.Lines.{Lacks, CutAt}
@@ -18,7 +19,7 @@ use Rattle.layout_lines.specs.ReadLines.{line_of}
 use Rattle.layout_lines.specs.Sets.{open_parts, may_follow}
 use Rattle.layout_rules.specs.Faults.{Front, behind}
 use Rattle.layout_rules.specs.LineRules.{rule_of}
-use Rattle.layout_reader.specs.Claims.{Passes}
+use Rattle.layout_reader.specs.Claims.{Exceeds}
 use Rattle.layout_builder.specs.LineCounts.{line_types, line_parts, line_variables}
 use Rattle.layout_reader.specs.Progress.{IsState, line_number, Refuses, RefusesLine, Goes}
 use Rattle.layout_lines.proofs.LineLaws.{line_text_of}
@@ -52,37 +53,40 @@ pub refused : (front : Front) (count : ℕ) (line : List ℕ) → rule_of front 
 refused front count line broken = let rule = some_rule (rule_of front line) broken in (rule.0, (rule.1, refl))
 
 -- with the line there are too many of something, or of nothing
-data Room (set : Set) (begun : Option OpenEntry) (l : Line) : Type 0 where
-  too_many : (which : Count) → Passes set begun l which → Room set begun l
-  enough : ((which : Count) → Passes set begun l which → ⊥) → Room set begun l
+data Room (set : Set) (open_entry : Option OpenEntry) (l : Line) : Type 0 where
+  too_many : (which : Count) → Exceeds set open_entry l which → Room set open_entry l
+  enough : ((which : Count) → Exceeds set open_entry l which → ⊥) → Room set open_entry l
 
 -- where no count is above its greatest number, there are too many of nothing
-none_passes : (set : Set) (begun : Option OpenEntry) (l : Line) → length set.types + line_types l ≤ 20000 → part_count set + open_parts begun + line_parts l ≤ 40000 → variable_count set + line_variables l ≤ 20000
-    → (which : Count) → Passes set begun l which → ⊥
-none_passes set begun l t p v Types h = omega (arith, t, h)
-none_passes set begun l t p v Parts h = omega (arith, p, h)
-none_passes set begun l t p v Variables h = omega (arith, v, h)
+none_exceeds : (set : Set) (open_entry : Option OpenEntry) (l : Line) → length set.types + line_types l ≤ 20000
+    → part_count set + open_parts open_entry + line_parts l ≤ 40000 → variable_count set + line_variables l ≤ 20000
+    → (which : Count) → Exceeds set open_entry l which → ⊥
+none_exceeds set open_entry l t p v Types h = omega (arith, t, h)
+none_exceeds set open_entry l t p v Parts h = omega (arith, p, h)
+none_exceeds set open_entry l t p v Variables h = omega (arith, v, h)
 
 -- with no more types and parts than there may be, by how many variables there are
-by_variables : (set : Set) (begun : Option OpenEntry) (l : Line) → length set.types + line_types l ≤ 20000 → part_count set + open_parts begun + line_parts l ≤ 40000
-    → (20000 < variable_count set + line_variables l) ⊎ (variable_count set + line_variables l ≤ 20000) → Room set begun l
-by_variables set begun l t p (inl h) = too_many Variables h
-by_variables set begun l t p (inr v) = enough (none_passes set begun l t p v)
+by_variables : (set : Set) (open_entry : Option OpenEntry) (l : Line) → length set.types + line_types l ≤ 20000
+    → part_count set + open_parts open_entry + line_parts l ≤ 40000
+    → (20000 < variable_count set + line_variables l) ⊎ (variable_count set + line_variables l ≤ 20000) → Room set open_entry l
+by_variables set open_entry l t p (inl h) = too_many Variables h
+by_variables set open_entry l t p (inr v) = enough (none_exceeds set open_entry l t p v)
 
 -- with no more types than there may be, by how many parts there are
-by_parts : (set : Set) (begun : Option OpenEntry) (l : Line) → length set.types + line_types l ≤ 20000
-    → (40000 < part_count set + open_parts begun + line_parts l) ⊎ (part_count set + open_parts begun + line_parts l ≤ 40000) → Room set begun l
-by_parts set begun l t (inl h) = too_many Parts h
-by_parts set begun l t (inr p) = by_variables set begun l t p (cases_lt 20000 (variable_count set + line_variables l))
+by_parts : (set : Set) (open_entry : Option OpenEntry) (l : Line) → length set.types + line_types l ≤ 20000
+    → (40000 < part_count set + open_parts open_entry + line_parts l) ⊎ (part_count set + open_parts open_entry + line_parts l ≤ 40000) → Room set open_entry l
+by_parts set open_entry l t (inl h) = too_many Parts h
+by_parts set open_entry l t (inr p) = by_variables set open_entry l t p (cases_lt 20000 (variable_count set + line_variables l))
 
 -- by how many types there are
-by_types : (set : Set) (begun : Option OpenEntry) (l : Line) → (20000 < length set.types + line_types l) ⊎ (length set.types + line_types l ≤ 20000) → Room set begun l
-by_types set begun l (inl h) = too_many Types h
-by_types set begun l (inr t) = by_parts set begun l t (cases_lt 40000 (part_count set + open_parts begun + line_parts l))
+by_types : (set : Set) (open_entry : Option OpenEntry) (l : Line) → (20000 < length set.types + line_types l) ⊎ (length set.types + line_types l ≤ 20000)
+    → Room set open_entry l
+by_types set open_entry l (inl h) = too_many Types h
+by_types set open_entry l (inr t) = by_parts set open_entry l t (cases_lt 40000 (part_count set + open_parts open_entry + line_parts l))
 
 -- each line makes too many of something, or of nothing
-room : (set : Set) (begun : Option OpenEntry) (l : Line) → Room set begun l
-room set begun l = by_types set begun l (cases_lt 20000 (length set.types + line_types l))
+room : (set : Set) (open_entry : Option OpenEntry) (l : Line) → Room set open_entry l
+room set open_entry l = by_types set open_entry l (cases_lt 20000 (length set.types + line_types l))
 
 -- a line that follows what was read is refused, not for want of memory, or goes on from it
 pub data Step (r : Reading) (line : List ℕ) : Type 0 where
@@ -92,20 +96,22 @@ pub data Step (r : Reading) (line : List ℕ) : Type 0 where
 -- what was read with the line
 abbrev with_line : Reading → Line → Reading
 with_line r l = record {
-  set = (added r.set r.begun l).0;
-  begun = (added r.set r.begun l).1;
+  set = (added r.set r.open_entry l).0;
+  open_entry = (added r.set r.open_entry l).1;
   parts = r.parts + line_parts l;
   variables = r.variables + line_variables l;
   lines = line_number r.lines;
 }
 
 -- a line that breaks a rule
-unfit : (r : Reading) (line : List ℕ) → rule_of (behind r.set r.begun) line ≢ None → Step r line
-unfit r line broken = let why = refused (behind r.set r.begun) r.lines line broken in stops (BadLine (line_number r.lines) why.0) (λ e. cc) why.1
+unfit : (r : Reading) (line : List ℕ) → rule_of (behind r.set r.open_entry) line ≢ None → Step r line
+unfit r line broken = let why = refused (behind r.set r.open_entry) r.lines line broken in stops (BadLine (line_number r.lines) why.0) (λ e. cc) why.1
 
 -- a line that may follow
-by_room : (r : Reading) (line : List ℕ) (l : Line) → IsState r → line ≡ line_text (length r.set.types) l → may_follow r.set r.begun (kind_of_line l) ≡ true → IsLine l → Room r.set r.begun l → Step r line
-by_room r line l state text may is (too_many which passes) = stops (Limit which) (λ e. cc) (record { line = l; text_is = text; follows = may; is_line = is; passes = passes })
+by_room : (r : Reading) (line : List ℕ) (l : Line) → IsState r → line ≡ line_text (length r.set.types) l
+    → may_follow r.set r.open_entry (kind_of_line l) ≡ true → IsLine l → Room r.set r.open_entry l → Step r line
+by_room r line l state text may is (too_many which exceeds) = stops (Limit which) (λ e. cc)
+    (record { line = l; text_is = text; follows = may; is_line = is; exceeds = exceeds })
 by_room r line l state text may is (enough none) =
     goes (with_line r l)
     (record {
@@ -114,18 +120,21 @@ by_room r line l state text may is (enough none) =
       follows = may;
       is_line = is;
       draft_is = refl;
-      state = state_added r l (added r.set r.begun l) (r.parts + line_parts l) (r.variables + line_variables l) (line_number r.lines) state may is none refl refl refl refl;
+      state = state_added r l (added r.set r.open_entry l) (r.parts + line_parts l) (r.variables + line_variables l)
+          (line_number r.lines) state may is none refl refl refl refl;
     })
 
 -- a line that reads as one, by whether it may follow
-by_place : (r : Reading) (line : List ℕ) (l : Line) (b : Bool) → IsState r → line_of (length r.set.types) line ≡ Some l → may_follow r.set r.begun (kind_of_line l) ≡ b → Step r line
-by_place r line l true state read may = let is = line_text_of (length r.set.types) line l read in by_room r line l state is.0 may is.1 (room r.set r.begun l)
-by_place r line l false state read may = unfit r line (misplaced_rule r.set r.begun line l read may)
+by_place : (r : Reading) (line : List ℕ) (l : Line) (b : Bool) → IsState r → line_of (length r.set.types) line ≡ Some l
+    → may_follow r.set r.open_entry (kind_of_line l) ≡ b → Step r line
+by_place r line l true state read may = let is = line_text_of (length r.set.types) line l read in by_room r line l state is.0 may is.1
+    (room r.set r.open_entry l)
+by_place r line l false state read may = unfit r line (misplaced_rule r.set r.open_entry line l read may)
 
 -- a line, by what it reads as
 by_line : (r : Reading) (line : List ℕ) (o : Option Line) → IsState r → line_of (length r.set.types) line ≡ o → Step r line
-by_line r line None state none = unfit r line (unfit_rule r.set r.begun line none)
-by_line r line (Some l) state read = by_place r line l (may_follow r.set r.begun (kind_of_line l)) state read refl
+by_line r line None state none = unfit r line (unfit_rule r.set r.open_entry line none)
+by_line r line (Some l) state read = by_place r line l (may_follow r.set r.open_entry (kind_of_line l)) state read refl
 
 -- each line is refused, not for want of memory, or goes on from what was read
 pub step : (r : Reading) (line : List ℕ) → IsState r → Step r line

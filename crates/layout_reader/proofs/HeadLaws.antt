@@ -1,5 +1,6 @@
 -- The first two lines: what they say, and that they break a rule where they don't.
-use Rattle.std.proofs.Common.{◌≡◌, ◌≢◌, ◌∙◌, sym, ap, subst, refl, ℕ, ◌<◌, ◌^◌, Bool, true, false, cond, List, ◌++◌, Option, Some, None, Ok, codes, append-nil, lit≤, lit<}
+use Rattle.std.proofs.Common.{◌≡◌, ◌≢◌, ◌∙◌, sym, ap, subst, refl, ℕ, ◌<◌, ◌^◌, Bool, true, false, cond, List, ◌++◌, Option, Some, None, Ok, codes}
+use Rattle.std.proofs.Common.{append-nil, lit≤, lit<}
 use Rattle.std.proofs.lemmas.Option.{cond_some}
 use Rattle.std.proofs.lemmas.Slice.Eq.{bytes_eq-Decides}
 use Rattle.std.specs.Fmt.{decimal}
@@ -62,7 +63,8 @@ version_words = then_fault 0 version nothing version_fault (nothing_fault 0)
 target_words : Faulty 0 target_form
 target_words = then_fault 0 (number 8) nothing (number_fault 0 8 (lit≤ tt)) (nothing_fault 0)
 
-broken_words : {A : Type 0} (F : Form A) → Faulty 0 F → (left : Left) → F.of left ≡ None → (b : Bool) → fits F.slots left ≡ b → cond b (lowest_broken 0 F.slots left) (Some 3) ≢ None
+broken_words : {A : Type 0} (F : Form A) → Faulty 0 F → (left : Left) → F.of left ≡ None → (b : Bool) → fits F.slots left ≡ b
+    → cond b (lowest_broken 0 F.slots left) (Some 3) ≢ None
 broken_words F fault left e true h n = let r = (fault.broke left e h).1 in cc
 broken_words F fault left e false h n = cc
 
@@ -73,7 +75,8 @@ target_unfit : (left : Left) → target_form.of left ≡ None → rule_of_words 
 target_unfit left e = broken_words target_form target_words left e (fits target_form.slots left) refl
 
 -- a line that begins with a word, and what it says behind it
-behind_says : {A : Type 0} (word : List ℕ) (F : Form A) → FormLaw F → (line : List ℕ) (a : A) (b : Bool) → bytes_eq (cut line).0 word ≡ b → cond b (F.of (cut line).1) None ≡ Some a
+behind_says : {A : Type 0} (word : List ℕ) (F : Form A) → FormLaw F → (line : List ℕ) (a : A) (b : Bool) → bytes_eq (cut line).0 word ≡ b
+    → cond b (F.of (cut line).1) None ≡ Some a
     → (line ≡ word ++ behind (F.text a)) × F.Is a
 behind_says word F law line a true t e =
     let known = law.says (cut line).1 a e in
@@ -100,9 +103,11 @@ none_of_map f (Some a) e = absurd (cc)
 behind_none : {A : Type 0} (word : List ℕ) (F : Form A) (line : List ℕ) → (cut line).0 ≡ word → behind_word word F line ≡ None → F.of (cut line).1 ≡ None
 behind_none word F line w e = sym (ap (λ b. cond b (F.of (cut line).1) None) ((bytes_eq-Decides (cut line).0 word).1 w)) ∙ e
 
-version_kind : (line : List ℕ) (o : Option LineKind) → line_kind_of (cut line).0 ≡ o → behind_word (codes "rdbg-layout") version_form line ≡ None → rule_of_kind first (cut line).1 o ≢ None
+version_kind : (line : List ℕ) (o : Option LineKind) → line_kind_of (cut line).0 ≡ o → behind_word (codes "rdbg-layout") version_form line ≡ None
+    → rule_of_kind first (cut line).1 o ≢ None
 version_kind line None k e n = cc
-version_kind line (Some firsts.Version) k e n = version_unfit (cut line).1 (behind_none (codes "rdbg-layout") version_form line (line_kind_says (cut line).0 firsts.Version k) e) n
+version_kind line (Some firsts.Version) k e n = version_unfit (cut line).1
+    (behind_none (codes "rdbg-layout") version_form line (line_kind_says (cut line).0 firsts.Version k) e) n
 version_kind line (Some firsts.Target) k e n = cc
 version_kind line (Some firsts.Type) k e n = cc
 version_kind line (Some firsts.Param) k e n = cc
@@ -118,10 +123,12 @@ version_kind line (Some firsts.Arg) k e n = cc
 version_kind line (Some firsts.At) k e n = cc
 version_kind line (Some firsts.Piece) k e n = cc
 
-target_kind : (line : List ℕ) (o : Option LineKind) → line_kind_of (cut line).0 ≡ o → behind_word (codes "target") target_form line ≡ None → rule_of_kind second (cut line).1 o ≢ None
+target_kind : (line : List ℕ) (o : Option LineKind) → line_kind_of (cut line).0 ≡ o → behind_word (codes "target") target_form line ≡ None
+    → rule_of_kind second (cut line).1 o ≢ None
 target_kind line None k e n = cc
 target_kind line (Some firsts.Version) k e n = cc
-target_kind line (Some firsts.Target) k e n = target_unfit (cut line).1 (behind_none (codes "target") target_form line (line_kind_says (cut line).0 firsts.Target k) e) n
+target_kind line (Some firsts.Target) k e n = target_unfit (cut line).1
+    (behind_none (codes "target") target_form line (line_kind_says (cut line).0 firsts.Target k) e) n
 target_kind line (Some firsts.Type) k e n = cc
 target_kind line (Some firsts.Param) k e n = cc
 target_kind line (Some firsts.Field) k e n = cc
@@ -142,11 +149,13 @@ unless_utf8 false o h = λ e. cc
 
 pub version_breaks : (line : List ℕ) → version_of line ≡ None → rule_of first line ≢ None
 unfolding version_of rule_of
-version_breaks line e = unless_utf8 (is_utf8 line) (rule_of_kind first (cut line).1 (line_kind_of (cut line).0)) (version_kind line (line_kind_of (cut line).0) refl (none_of_map (λ _. tt) (behind_word (codes "rdbg-layout") version_form line) e))
+version_breaks line e = unless_utf8 (is_utf8 line) (rule_of_kind first (cut line).1 (line_kind_of (cut line).0))
+    (version_kind line (line_kind_of (cut line).0) refl (none_of_map (λ _. tt) (behind_word (codes "rdbg-layout") version_form line) e))
 
 pub target_breaks : (line : List ℕ) → target_of line ≡ None → rule_of second line ≢ None
 unfolding target_of rule_of
-target_breaks line e = unless_utf8 (is_utf8 line) (rule_of_kind second (cut line).1 (line_kind_of (cut line).0)) (target_kind line (line_kind_of (cut line).0) refl (none_of_map (λ p. p.0) (behind_word (codes "target") target_form line) e))
+target_breaks line e = unless_utf8 (is_utf8 line) (rule_of_kind second (cut line).1 (line_kind_of (cut line).0))
+    (target_kind line (line_kind_of (cut line).0) refl (none_of_map (λ p. p.0) (behind_word (codes "target") target_form line) e))
 
 pub version_is_read : version_of version_text ≡ Some tt
 unfolding version_of cut
@@ -171,7 +180,8 @@ unfolding rule_of cut
 version_rule =
     let utf8 = is_utf8-from_IsUtf8 version_text (line_visible 32 version_text (lit< tt) (from_test 32 version_text refl)).1 in
     let kept = version_words.keeps (Some (codes "1")) (tt, tt) refl in
-    if_true (is_utf8 version_text) (rule_of_kind first (cut version_text).1 (line_kind_of (cut version_text).0)) (Some 1) utf8 ∙ kept_rule 0 (Some (codes "1")) version_form.slots kept
+    if_true (is_utf8 version_text) (rule_of_kind first (cut version_text).1 (line_kind_of (cut version_text).0)) (Some 1) utf8
+    ∙ kept_rule 0 (Some (codes "1")) version_form.slots kept
 
 pub version_breaks_none : (rule : ℕ) → BreaksLine first version_text rule → ⊥
 version_breaks_none rule b = subst (Finds (BreaksLine first version_text)) version_rule (line_finds_lowest first version_text) rule b
@@ -182,7 +192,8 @@ target_rule ptr h =
     let text = target_text ptr in
     let left : Left = target_form.text (ptr, tt) in
     let digits = line_visible 48 (decimal ptr) (lit< tt) (from_decimal 8 ptr (lit≤ tt) h) in
-    let utf8 = is_utf8-from_IsUtf8 text (line_append (codes "target ") (decimal ptr) (line_visible 32 (codes "target ") (lit< tt) (from_test 32 (codes "target ") refl)) digits).1 in
+    let utf8 = is_utf8-from_IsUtf8 text (line_append (codes "target ") (decimal ptr)
+    (line_visible 32 (codes "target ") (lit< tt) (from_test 32 (codes "target ") refl)) digits).1 in
     if_true (is_utf8 text) (rule_of_kind second (cut text).1 (line_kind_of (cut text).0)) (Some 1) utf8
     ∙ ap (λ p. rule_of_kind second p.1 (line_kind_of p.0)) (target_cut ptr)
     ∙ kept_rule 0 left target_form.slots (target_words.keeps left (ptr, tt) (target_form_law.some (ptr, tt) (h, tt)))

@@ -27,25 +27,29 @@ few n h = let e : 20001 ≤ 2 ^ 32 = lit≤ tt in omega arith
 
 -- a line that is no line of types, statics or functions
 
-by_place : (set : Set) (begun : Option OpenEntry) (text : List ℕ) (kind : LineKind) (b : Bool) → may_stand (behind set begun) kind ≡ b → line_kind_of (cut text).0 ≡ Some kind → line_of (length set.types) text ≡ None → IsBroken (rule_of (behind set begun) text)
-by_place set begun text kind true may e none = unfit_breaks set begun text kind e may none
-by_place set begun text kind false may e none = misplaced_breaks (behind set begun) text kind e may
+by_place : (set : Set) (open_entry : Option OpenEntry) (text : List ℕ) (kind : LineKind) (b : Bool) → may_stand (behind set open_entry) kind ≡ b
+    → line_kind_of (cut text).0 ≡ Some kind → line_of (length set.types) text ≡ None → IsBroken (rule_of (behind set open_entry) text)
+by_place set open_entry text kind true may e none = unfit_breaks set open_entry text kind e may none
+by_place set open_entry text kind false may e none = misplaced_breaks (behind set open_entry) text kind e may
 
-by_kind : (set : Set) (begun : Option OpenEntry) (text : List ℕ) (o : Option LineKind) → line_kind_of (cut text).0 ≡ o → line_of (length set.types) text ≡ None → IsBroken (rule_of (behind set begun) text)
-by_kind set begun text None e none = no_kind_breaks (behind set begun) text e
-by_kind set begun text (Some kind) e none = by_place set begun text kind (may_stand (behind set begun) kind) refl e none
+by_kind : (set : Set) (open_entry : Option OpenEntry) (text : List ℕ) (o : Option LineKind) → line_kind_of (cut text).0 ≡ o
+    → line_of (length set.types) text ≡ None → IsBroken (rule_of (behind set open_entry) text)
+by_kind set open_entry text None e none = no_kind_breaks (behind set open_entry) text e
+by_kind set open_entry text (Some kind) e none = by_place set open_entry text kind (may_stand (behind set open_entry) kind) refl e none
 
-pub unfit_rule : (set : Set) (begun : Option OpenEntry) (text : List ℕ) → line_of (length set.types) text ≡ None → rule_of (behind set begun) text ≢ None
-unfit_rule set begun text none = is_broken (rule_of (behind set begun) text) (by_kind set begun text (line_kind_of (cut text).0) refl none)
+pub unfit_rule : (set : Set) (open_entry : Option OpenEntry) (text : List ℕ) → line_of (length set.types) text ≡ None
+    → rule_of (behind set open_entry) text ≢ None
+unfit_rule set open_entry text none = is_broken (rule_of (behind set open_entry) text) (by_kind set open_entry text (line_kind_of (cut text).0) refl none)
 
 -- a line that may not follow
 
-pub misplaced_rule : (set : Set) (begun : Option OpenEntry) (text : List ℕ) (l : Line) → line_of (length set.types) text ≡ Some l → may_follow set begun (kind_of_line l) ≡ false → rule_of (behind set begun) text ≢ None
-misplaced_rule set begun text l read misplaced =
+pub misplaced_rule : (set : Set) (open_entry : Option OpenEntry) (text : List ℕ) (l : Line) → line_of (length set.types) text ≡ Some l
+    → may_follow set open_entry (kind_of_line l) ≡ false → rule_of (behind set open_entry) text ≢ None
+misplaced_rule set open_entry text l read misplaced =
     let is = (line_text_of (length set.types) text l read).0 in
     let found = line_kind_found (kind_of_line l) in
     let word : cut text ≡ (line_kind_word (kind_of_line l), line_rest (length set.types) l) =
     ap cut is ∙ cut_behind (line_kind_word (kind_of_line l)) (line_rest (length set.types) l) (free_lacks 32 (line_kind_word (kind_of_line l)) found.1.0)
     in
     let kind : line_kind_of (cut text).0 ≡ Some (kind_of_line l) = ap (λ p. line_kind_of p.0) word ∙ found.0 in
-    is_broken (rule_of (behind set begun) text) (misplaced_breaks (behind set begun) text (kind_of_line l) kind misplaced)
+    is_broken (rule_of (behind set open_entry) text) (misplaced_breaks (behind set open_entry) text (kind_of_line l) kind misplaced)

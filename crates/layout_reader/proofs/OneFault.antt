@@ -16,7 +16,7 @@ use Rattle.layout_lines.specs.Lines.{kind_of_line, line_text, IsLine}
 use Rattle.layout_lines.specs.Sets.{lines_before, texts, number_after, may_follow, head_text, version_text, target_text, SpellsBefore, IsBoundedBefore}
 use Rattle.layout_builder.specs.Additions.{Draft, added}
 use Rattle.layout_rules.specs.Faults.{Front, first, second, behind, BreaksLine, IsLowest}
-use Rattle.layout_reader.specs.Claims.{IsBefore, IsWhole, Breaks, whole, endless, missing, Passes, IsFault, IsLimit, HaveOneFault}
+use Rattle.layout_reader.specs.Claims.{IsBefore, IsFirstLine, Breaks, whole, endless, missing, Exceeds, IsFault, IsLimit, HaveOneFault}
 use Rattle.layout_builder.specs.LineCounts.{line_types, line_parts, line_variables}
 use Rattle.layout_builder.proofs.Adding.{Advance, IsReady, advances}
 use Rattle.layout_lines.proofs.FuncTexts.{text_before_is}
@@ -31,7 +31,8 @@ use Rattle.layout_rules.proofs.LowestLines.{one_lowest}
 
 -- with the line there are not too many of anything
 abbrev Within : Front → List ℕ → Type 0
-Within (behind set begun) text = (l : Line) (which : Count) → text ≡ line_text (length set.types) l → may_follow set begun (kind_of_line l) ≡ true → IsLine l → Passes set begun l which → ⊥
+Within (behind set open_entry) text = (l : Line) (which : Count) → text ≡ line_text (length set.types) l → may_follow set open_entry (kind_of_line l) ≡ true
+    → IsLine l → Exceeds set open_entry l which → ⊥
 Within front text = Unit {0}
 
 -- the first line behind the front may stand there, and there are not too many of anything with it
@@ -62,7 +63,8 @@ data Meet (a b : Draft) (s t : List ℕ) : Type 0 where
   ahead : (l : Line) (rest : List Line) → Leads a (l ∷ rest) b → All IsLine (l ∷ rest) → s ≡ texts (length a.0.types) (l ∷ rest) ++ t → Meet a b s t
   back : (l : Line) (rest : List Line) → Leads b (l ∷ rest) a → All IsLine (l ∷ rest) → t ≡ texts (length b.0.types) (l ∷ rest) ++ s → Meet a b s t
 
-meets : LinesAreKnown → (o a b : Draft) (xs ys : List Line) (s t : List ℕ) → IsReady o → Leads o xs a → Leads o ys b → All IsLine xs → All IsLine ys → length b.0.types < 2 ^ 32
+meets : LinesAreKnown → (o a b : Draft) (xs ys : List Line) (s t : List ℕ) → IsReady o → Leads o xs a → Leads o ys b → All IsLine xs → All IsLine ys
+    → length b.0.types < 2 ^ 32
     → texts (length o.0.types) xs ++ s ≡ texts (length o.0.types) ys ++ t → Meet a b s t
 meets K o a b [] [] s t r p q hx hy room e = equal (sym p ∙ q) e
 meets K o a b [] (m ∷ ys) s t r p q hx hy room e = subst (λ x. Meet x b s t) p (ahead m ys q hy e)
@@ -73,21 +75,25 @@ meets K o a b (l ∷ xs) (m ∷ ys) s t r p q hx hy room e =
     let im = All-head IsLine m ys hy in
     let g = lines_grow o b (m ∷ ys) r q hy in
     let small : n < 2 ^ 32 = let x = g.types in omega (arith, x, room) in
-    let cut = same_line (line_text n l) (line_text n m) (texts (number_after n l) xs ++ s) (texts (number_after n m) ys ++ t) (K.no_end n l small il) (K.no_end n m small im)
-    (sym (append_assoc (with_end (line_text n l)) (texts (number_after n l) xs) s) ∙ e ∙ append_assoc (with_end (line_text n m)) (texts (number_after n m) ys) t) in
+    let cut = same_line (line_text n l) (line_text n m) (texts (number_after n l) xs ++ s) (texts (number_after n m) ys ++ t) (K.no_end n l small il)
+    (K.no_end n m small im)
+    (sym (append_assoc (with_end (line_text n l)) (texts (number_after n l) xs) s) ∙ e
+    ∙ append_assoc (with_end (line_text n m)) (texts (number_after n m) ys) t) in
     let same : l ≡ m = K.one_line n l m small il im cut.0 in
     let c = advances o.0 o.1 l p.0 il r in
     let number = next_number o l (added o.0 o.1 l) c in
-    meets K (added o.0 o.1 l) a b xs ys s t c.ready p.1 (subst (λ x. Leads (added o.0 o.1 x) ys b) (sym same) q.1) (All-tail IsLine l xs hx) (All-tail IsLine m ys hy) room
+    meets K (added o.0 o.1 l) a b xs ys s t c.ready p.1 (subst (λ x. Leads (added o.0 o.1 x) ys b) (sym same) q.1) (All-tail IsLine l xs hx)
+    (All-tail IsLine m ys hy) room
     (ap (λ k. texts k xs ++ s) (sym number) ∙ cut.1 ∙ ap (λ x. texts (number_after n x) ys ++ t) (sym same) ∙ ap (λ k. texts k ys ++ t) number)
 
 -- a line of a set that is not too large is not one too many
-no_surplus : (a b : Draft) (l : Line) (which : Count) (d : Draft) → Advance a.0 a.1 l d → Grows d b → IsBoundedBefore b.0 b.1 → Passes a.0 a.1 l which → ⊥
+no_surplus : (a b : Draft) (l : Line) (which : Count) (d : Draft) → Advance a.0 a.1 l d → Grows d b → IsBoundedBefore b.0 b.1 → Exceeds a.0 a.1 l which → ⊥
 no_surplus a b l Types d c g h pass = let x = c.types in let y = g.types in let z = h.types in omega (arith, x, y, z, pass)
 no_surplus a b l Parts d c g h pass = let x = c.parts in let y = g.parts in let z = h.parts in omega (arith, x, y, z, pass)
 no_surplus a b l Variables d c g h pass = let x = c.vars in let y = g.vars in let z = h.variables in omega (arith, x, y, z, pass)
 
-goes_past : LinesAreKnown → (a b : Draft) (l : Line) (rest : List Line) (s t : List ℕ) → IsReady a → IsBoundedBefore b.0 b.1 → Leads a (l ∷ rest) b → All IsLine (l ∷ rest) → s ≡ texts (length a.0.types) (l ∷ rest) ++ t
+goes_past : LinesAreKnown → (a b : Draft) (l : Line) (rest : List Line) (s t : List ℕ) → IsReady a → IsBoundedBefore b.0 b.1 → Leads a (l ∷ rest) b
+    → All IsLine (l ∷ rest) → s ≡ texts (length a.0.types) (l ∷ rest) ++ t
     → GoesPast (behind a.0 a.1) s
 goes_past K a b l rest s t r bounded lead is e =
     let n = length a.0.types in
@@ -127,12 +133,14 @@ second_goes ptr s left h e = record {
 }
 
 -- the first two lines before, the others, and the rest
-parts_of : (set : Set) (begun : Option OpenEntry) (text rest : List ℕ) → SpellsBefore set begun text → text ++ rest ≡ head_text set.target.ptr ++ (texts 0 (lines_before set begun) ++ rest)
-parts_of set begun text rest s = ap (λ z. z ++ rest) (s.text_is ∙ text_before_is set begun) ∙ append_assoc (head_text set.target.ptr) (texts 0 (lines_before set begun)) rest
+parts_of : (set : Set) (open_entry : Option OpenEntry) (text rest : List ℕ) → SpellsBefore set open_entry text
+    → text ++ rest ≡ head_text set.target.ptr ++ (texts 0 (lines_before set open_entry) ++ rest)
+parts_of set open_entry text rest s = ap (λ z. z ++ rest) (s.text_is ∙ text_before_is set open_entry)
+    ∙ append_assoc (head_text set.target.ptr) (texts 0 (lines_before set open_entry)) rest
 
-head_of : (set : Set) (begun : Option OpenEntry) (text rest : List ℕ) → SpellsBefore set begun text
-    → text ++ rest ≡ with_end version_text ++ (with_end (target_text set.target.ptr) ++ (texts 0 (lines_before set begun) ++ rest))
-head_of set begun text rest s = parts_of set begun text rest s ∙ head_cut set.target.ptr (texts 0 (lines_before set begun) ++ rest)
+head_of : (set : Set) (open_entry : Option OpenEntry) (text rest : List ℕ) → SpellsBefore set open_entry text
+    → text ++ rest ≡ with_end version_text ++ (with_end (target_text set.target.ptr) ++ (texts 0 (lines_before set open_entry) ++ rest))
+head_of set open_entry text rest s = parts_of set open_entry text rest s ∙ head_cut set.target.ptr (texts 0 (lines_before set open_entry) ++ rest)
 
 met : LinesAreKnown → (a b : Set) (x y : Option OpenEntry) (u v s t : List ℕ) → SpellsBefore a x u → SpellsBefore b y v → Meet (a, x) (b, y) s t
     → Compared (behind a x) (behind b y) s t (2 + length (lines_before a x)) (2 + length (lines_before b y))
@@ -145,11 +153,13 @@ both_behind : LinesAreKnown → (a b : Set) (x y : Option OpenEntry) (u v s t : 
 both_behind K a b x y u v s t e sa sb =
     let ls = lines_before a x in
     let ms = lines_before b y in
-    let both : head_text a.target.ptr ++ (texts 0 ls ++ s) ≡ head_text b.target.ptr ++ (texts 0 ms ++ t) = sym (parts_of a x u s sa) ∙ e ∙ parts_of b y v t sb in
+    let both : head_text a.target.ptr ++ (texts 0 ls ++ s) ≡ head_text b.target.ptr ++ (texts 0 ms ++ t) = sym (parts_of a x u s sa) ∙ e
+    ∙ parts_of b y v t sb in
     let cut = same_head a.target.ptr b.target.ptr (texts 0 ls ++ s) (texts 0 ms ++ t) sa.items.target sb.items.target both in
     let target : a.target ≡ b.target = ap (λ p. record { ptr = p }) cut.0 in
     met K a b x y u v s t sa sb
-    (meets K (empty_set a.target, None) (a, x) (b, y) ls ms s t tt (lines_before_lead a x (is_ready a x sa.entry)) (subst (λ z. Leads (empty_set z, None) ms (b, y)) (sym target) (lines_before_lead b y (is_ready b y sb.entry)))
+    (meets K (empty_set a.target, None) (a, x) (b, y) ls ms s t tt (lines_before_lead a x (is_ready a x sa.entry))
+    (subst (λ z. Leads (empty_set z, None) ms (b, y)) (sym target) (lines_before_lead b y (is_ready b y sb.entry)))
     (before_are_lines a x sa.items.lines sa.entry) (before_are_lines b y sb.items.lines sb.entry) (few (length b.types) sb.bounded.types) cut.1)
 
 from_first : (g : Front) (u v s t : List ℕ) (m n : ℕ) → u ++ s ≡ v ++ t → IsBefore first u m → IsBefore g v n → Compared first g s t m n
@@ -157,15 +167,18 @@ from_first first u v s t m n e h k = one refl (ap (λ z. z ++ s) (sym h.0) ∙ e
 from_first second u v s t m n e h k = past_f (first_goes s t (ap (λ z. z ++ s) (sym h.0) ∙ e ∙ ap (λ z. z ++ t) k.0))
 from_first (behind b y) u v s t m n e h k = past_f (first_goes s _ (ap (λ z. z ++ s) (sym h.0) ∙ e ∙ head_of b y v t k.0))
 
-second_behind : (b : Set) (y : Option OpenEntry) (u v s t : List ℕ) (m n : ℕ) → u ++ s ≡ v ++ t → IsBefore second u m → IsBefore (behind b y) v n → Compared second (behind b y) s t m n
+second_behind : (b : Set) (y : Option OpenEntry) (u v s t : List ℕ) (m n : ℕ) → u ++ s ≡ v ++ t → IsBefore second u m → IsBefore (behind b y) v n
+    → Compared second (behind b y) s t m n
 second_behind b y u v s t m n e h k =
     let left = texts 0 (lines_before b y) ++ t in
-    past_f (second_goes b.target.ptr s left k.0.items.target (append_cancel_left (with_end version_text) s (with_end (target_text b.target.ptr) ++ left) (ap (λ z. z ++ s) (sym h.0) ∙ e ∙ head_of b y v t k.0)))
+    past_f (second_goes b.target.ptr s left k.0.items.target (append_cancel_left (with_end version_text) s (with_end (target_text b.target.ptr) ++ left)
+    (ap (λ z. z ++ s) (sym h.0) ∙ e ∙ head_of b y v t k.0)))
 
 compared : LinesAreKnown → (f g : Front) (u v s t : List ℕ) (m n : ℕ) → u ++ s ≡ v ++ t → IsBefore f u m → IsBefore g v n → Compared f g s t m n
 compared K first g u v s t m n e h k = from_first g u v s t m n e h k
 compared K second first u v s t m n e h k = swapped first second t s n m (from_first second v u t s n m (sym e) k h)
-compared K second second u v s t m n e h k = one refl (append_cancel_left (with_end version_text) s t (ap (λ z. z ++ s) (sym h.0) ∙ e ∙ ap (λ z. z ++ t) k.0)) (h.1 ∙ sym k.1)
+compared K second second u v s t m n e h k = one refl (append_cancel_left (with_end version_text) s t (ap (λ z. z ++ s) (sym h.0) ∙ e ∙ ap (λ z. z ++ t) k.0))
+    (h.1 ∙ sym k.1)
 compared K second (behind b y) u v s t m n e h k = second_behind b y u v s t m n e h k
 compared K (behind a x) first u v s t m n e h k = swapped first (behind a x) t s n m (from_first (behind a x) v u t s n m (sym e) k h)
 compared K (behind a x) second u v s t m n e h k = swapped second (behind a x) t s n m (second_behind a x v u t s n m (sym e) k h)
@@ -213,7 +226,7 @@ count_of l (a_type p v) = Types
 count_of l (a_part p v) = Parts
 count_of l (a_variable p v) = Variables
 
-is_count : (d : Draft) (l : Line) (a : AddsOne l) (which : Count) → IsBoundedBefore d.0 d.1 → Passes d.0 d.1 l which → which ≡ count_of l a
+is_count : (d : Draft) (l : Line) (a : AddsOne l) (which : Count) → IsBoundedBefore d.0 d.1 → Exceeds d.0 d.1 l which → which ≡ count_of l a
 is_count d l (a_type p v) Types b h = refl
 is_count d l (a_type p v) Parts b h = absurd (let x = b.parts in omega (arith, x, p, h))
 is_count d l (a_type p v) Variables b h = absurd (let x = b.variables in omega (arith, x, v, h))
@@ -229,36 +242,38 @@ record Surplus (d : Draft) (text : List ℕ) (which : Count) : Type 0 where
   pub line : Line
   pub follows : may_follow d.0 d.1 (kind_of_line line) ≡ true
   pub is_line : IsLine line
-  pub is_whole : IsWhole (line_text (length d.0.types) line) text
-  pub passes : Passes d.0 d.1 line which
+  pub is_first : IsFirstLine (line_text (length d.0.types) line) text
+  pub exceeds : Exceeds d.0 d.1 line which
   pub bounded : IsBoundedBefore d.0 d.1
 
-surplus : (bytes : List ℕ) (which : Count) (k : IsLimit bytes which) → Surplus (k.set, k.begun) k.text which
-surplus bytes which k = record { line = k.line; follows = k.follows; is_line = k.is_line; is_whole = k.whole; passes = k.passes; bounded = k.spells.bounded }
+surplus : (bytes : List ℕ) (which : Count) (k : IsLimit bytes which) → Surplus (k.set, k.open_entry) k.text which
+surplus bytes which k = record { line = k.line; follows = k.follows; is_line = k.is_line; is_first = k.whole; exceeds = k.exceeds; bounded = k.spells.bounded }
 
 one_surplus : LinesAreKnown → (d : Draft) (text : List ℕ) (x y : Count) → Surplus d text x → Surplus d text y → x ≡ y
 one_surplus K d text x y h k =
     let n = length d.0.types in
-    let cut = one_cut 10 text (line_text n h.line) (line_text n k.line) h.is_whole.0 k.is_whole.0 h.is_whole.1 k.is_whole.1 in
+    let cut = one_cut 10 text (line_text n h.line) (line_text n k.line) h.is_first.0 k.is_first.0 h.is_first.1 k.is_first.1 in
     let same : h.line ≡ k.line = K.one_line n h.line k.line (few n h.bounded.types) h.is_line k.is_line cut.0 in
     let a = adds_one h.line in
-    is_count d h.line a x h.bounded h.passes ∙ sym (is_count d h.line a y h.bounded (subst (λ l. Passes d.0 d.1 l y) (sym same) k.passes))
+    is_count d h.line a x h.bounded h.exceeds ∙ sym (is_count d h.line a y h.bounded (subst (λ l. Exceeds d.0 d.1 l y) (sym same) k.exceeds))
 
 not_past : (d : Draft) (text : List ℕ) (which : Count) → Surplus d text which → GoesPast (behind d.0 d.1) text → ⊥
 not_past d text which h g =
     let n = length d.0.types in
-    g.within h.line which (one_cut 10 text g.line (line_text n h.line) g.left h.is_whole.0 g.cut h.is_whole.1).0 h.follows h.is_line h.passes
+    g.within h.line which (one_cut 10 text g.line (line_text n h.line) g.left h.is_first.0 g.cut h.is_first.1).0 h.follows h.is_line h.exceeds
 
 -- such a line breaks no rule
 no_rule : (d : Draft) (text : List ℕ) (which : Count) (rule : ℕ) → Surplus d text which → Breaks (behind d.0 d.1) text rule → ⊥
-no_rule d text which rule h b = no_break (behind d.0 d.1) text rule (more (line_text (length d.0.types) h.line) h.is_whole.0 h.is_whole.1 (spelled_breaks_none d.0 d.1 h.line (few (length d.0.types) h.bounded.types) h.follows h.is_line)) b
+no_rule d text which rule h b = no_break (behind d.0 d.1) text rule (more (line_text (length d.0.types) h.line) h.is_first.0 h.is_first.1
+    (spelled_breaks_none d.0 d.1 h.line (few (length d.0.types) h.bounded.types) h.follows h.is_line)) b
 
 abbrev draft_at : Draft → Front → Draft
-draft_at d (behind set begun) = (set, begun)
+draft_at d (behind set open_entry) = (set, open_entry)
 draft_at d first = d
 draft_at d second = d
 
-two_faults : (bytes : List ℕ) (l r m q : ℕ) (h : IsFault bytes l r) (k : IsFault bytes m q) → Compared h.front k.front h.text k.text h.count k.count → BadLine l r ≡ BadLine m q
+two_faults : (bytes : List ℕ) (l r m q : ℕ) (h : IsFault bytes l r) (k : IsFault bytes m q) → Compared h.front k.front h.text k.text h.count k.count
+    → BadLine l r ≡ BadLine m q
 two_faults bytes l r m q h k (one p s c) =
     let number : l ≡ m = h.number ∙ ap (λ x. min (x + 1) (2 ^ 32 - 1)) c ∙ sym k.number in
     let there : Breaks k.front k.text r = subst (λ z. Breaks k.front z r) s (subst (λ z. Breaks z h.text r) p h.breaks) in
@@ -266,35 +281,41 @@ two_faults bytes l r m q h k (one p s c) =
 two_faults bytes l r m q h k (past_f g) = absurd (no_break_there h.front h.text r g h.breaks)
 two_faults bytes l r m q h k (past_g g) = absurd (no_break_there k.front k.text q g k.breaks)
 
-not_both : (bytes : List ℕ) (l r : ℕ) (which : Count) (h : IsFault bytes l r) (k : IsLimit bytes which) (n : ℕ) → Compared h.front (behind k.set k.begun) h.text k.text h.count n → ⊥
+not_both : (bytes : List ℕ) (l r : ℕ) (which : Count) (h : IsFault bytes l r) (k : IsLimit bytes which) (n : ℕ)
+    → Compared h.front (behind k.set k.open_entry) h.text k.text h.count n → ⊥
 not_both bytes l r which h k n (one p s c) =
-    no_rule (k.set, k.begun) k.text which r (surplus bytes which k) (subst (λ z. Breaks (behind k.set k.begun) z r) s (subst (λ z. Breaks z h.text r) p h.breaks))
+    no_rule (k.set, k.open_entry) k.text which r (surplus bytes which k)
+    (subst (λ z. Breaks (behind k.set k.open_entry) z r) s (subst (λ z. Breaks z h.text r) p h.breaks))
 not_both bytes l r which h k n (past_f g) = no_break_there h.front h.text r g h.breaks
-not_both bytes l r which h k n (past_g g) = not_past (k.set, k.begun) k.text which (surplus bytes which k) g
+not_both bytes l r which h k n (past_g g) = not_past (k.set, k.open_entry) k.text which (surplus bytes which k) g
 
-two_limits : LinesAreKnown → (bytes : List ℕ) (x y : Count) (h : IsLimit bytes x) (k : IsLimit bytes y) (m n : ℕ) → Compared (behind h.set h.begun) (behind k.set k.begun) h.text k.text m n → x ≡ y
+two_limits : LinesAreKnown → (bytes : List ℕ) (x y : Count) (h : IsLimit bytes x) (k : IsLimit bytes y) (m n : ℕ)
+    → Compared (behind h.set h.open_entry) (behind k.set k.open_entry) h.text k.text m n → x ≡ y
 two_limits K bytes x y h k m n (one p s c) =
-    let d : (h.set, h.begun) ≡ (k.set, k.begun) = ap (draft_at (h.set, h.begun)) p in
-    let there = subst (λ z. Surplus (k.set, k.begun) z x) s (subst (λ z. Surplus z h.text x) d (surplus bytes x h)) in
-    one_surplus K (k.set, k.begun) k.text x y there (surplus bytes y k)
-two_limits K bytes x y h k m n (past_f g) = absurd (not_past (h.set, h.begun) h.text x (surplus bytes x h) g)
-two_limits K bytes x y h k m n (past_g g) = absurd (not_past (k.set, k.begun) k.text y (surplus bytes y k) g)
+    let d : (h.set, h.open_entry) ≡ (k.set, k.open_entry) = ap (draft_at (h.set, h.open_entry)) p in
+    let there = subst (λ z. Surplus (k.set, k.open_entry) z x) s (subst (λ z. Surplus z h.text x) d (surplus bytes x h)) in
+    one_surplus K (k.set, k.open_entry) k.text x y there (surplus bytes y k)
+two_limits K bytes x y h k m n (past_f g) = absurd (not_past (h.set, h.open_entry) h.text x (surplus bytes x h) g)
+two_limits K bytes x y h k m n (past_g g) = absurd (not_past (k.set, k.open_entry) k.text y (surplus bytes y k) g)
 
 no_fault_and_limit : LinesAreKnown → (bytes : List ℕ) (l r : ℕ) (which : Count) → IsFault bytes l r → IsLimit bytes which → ⊥
 no_fault_and_limit K bytes l r which h k =
-    let n = 2 + length (lines_before k.set k.begun) in
-    not_both bytes l r which h k n (compared K h.front (behind k.set k.begun) h.before k.before h.text k.text h.count n (sym h.bytes_are ∙ k.bytes_are) h.is_before (k.spells, refl))
+    let n = 2 + length (lines_before k.set k.open_entry) in
+    not_both bytes l r which h k n (compared K h.front (behind k.set k.open_entry) h.before k.before h.text k.text h.count n
+    (sym h.bytes_are ∙ k.bytes_are) h.is_before (k.spells, refl))
 
 -- a file has at most one fault
 pub one_fault : LinesAreKnown → HaveOneFault
 one_fault K bytes (BadLine l r) (BadLine m q) h k n o =
-    two_faults bytes l r m q h k (compared K h.front k.front h.before k.before h.text k.text h.count k.count (sym h.bytes_are ∙ k.bytes_are) h.is_before k.is_before)
+    two_faults bytes l r m q h k (compared K h.front k.front h.before k.before h.text k.text h.count k.count
+    (sym h.bytes_are ∙ k.bytes_are) h.is_before k.is_before)
 one_fault K bytes (BadLine l r) (Limit which) h k n o = absurd (no_fault_and_limit K bytes l r which h k)
 one_fault K bytes (Limit which) (BadLine l r) h k n o = absurd (no_fault_and_limit K bytes l r which k h)
 one_fault K bytes (Limit x) (Limit y) h k n o =
-    let m = 2 + length (lines_before h.set h.begun) in
-    let i = 2 + length (lines_before k.set k.begun) in
-    ap (λ w. Limit w) (two_limits K bytes x y h k m i (compared K (behind h.set h.begun) (behind k.set k.begun) h.before k.before h.text k.text m i (sym h.bytes_are ∙ k.bytes_are) (h.spells, refl) (k.spells, refl)))
+    let m = 2 + length (lines_before h.set h.open_entry) in
+    let i = 2 + length (lines_before k.set k.open_entry) in
+    ap (λ w. Limit w) (two_limits K bytes x y h k m i (compared K (behind h.set h.open_entry) (behind k.set k.open_entry) h.before k.before h.text k.text m i
+    (sym h.bytes_are ∙ k.bytes_are) (h.spells, refl) (k.spells, refl)))
 one_fault K bytes Memory f h k n o = absurd (n refl)
 one_fault K bytes (BadLine l r) Memory h k n o = absurd (o refl)
 one_fault K bytes (Limit which) Memory h k n o = absurd (o refl)

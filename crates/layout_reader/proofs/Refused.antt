@@ -1,5 +1,6 @@
 -- What a refused line, or a line more, says of the whole file.
-use Rattle.std.proofs.Common.{◌≡◌, ◌≢◌, ℕ, ◌+◌, ◌-◌, ◌<◌, ◌^◌, min, List, [], ◌∷◌, ◌++◌, inl, inr, length, Option, Some, None, IsSome, Err, sym, ap, subst, refl, ◌∙◌, arith, append_assoc, append-nil}
+use Rattle.std.proofs.Common.{◌≡◌, ◌≢◌, ℕ, ◌+◌, ◌-◌, ◌<◌, ◌^◌, min, List, [], ◌∷◌, ◌++◌, inl, inr, length, Option, Some, None, IsSome, Err, sym, ap}
+use Rattle.std.proofs.Common.{subst, refl, ◌∙◌, arith, append_assoc, append-nil}
 use Rattle.readers.specs.Lines.{Lacks, CutAt, with_end}
 use Rattle.layout_set.specs.declared.set.Set.{Set}
 use Rattle.layout_lines.specs.declared.open_entry.OpenEntry.{OpenEntry}
@@ -24,7 +25,17 @@ most = 2 ^ 32 - 1
 pub refused_at : (front : Front) (bytes before left line more : List ℕ) (count lines : ℕ) (e : LayoutErr) → bytes ≡ before ++ left → IsBefore front before count
     → lines ≡ min count most → CutAt 10 left line more → Refuses front lines line e → IsReading bytes (Err e)
 refused_at front bytes before left line more count lines (BadLine n rule) b is l cut why =
-    record { front = front; before = before; text = left; count = count; bytes_are = b; is_before = is; breaks = whole line (more, cut) (is_lowest front line rule why.0); number = omega (arith, why.1, l) }
+    record {
+      front = front;
+      before = before;
+      text = left;
+      count = count;
+      bytes_are = b;
+      is_before = is;
+      breaks = whole line (more, cut)
+          (is_lowest front line rule why.0);
+      number = omega (arith, why.1, l);
+    }
 refused_at front bytes before left line more count lines (Limit which) b is l cut why = absurd why
 refused_at front bytes before left line more count lines Memory b is l cut why = tt
 
@@ -32,30 +43,55 @@ refused_at front bytes before left line more count lines Memory b is l cut why =
 pub ended_at : (front : Front) (bytes before left : List ℕ) (count lines : ℕ) (e : LayoutErr) → bytes ≡ before ++ left → IsBefore front before count
     → lines ≡ min count most → Lacks 10 left → (left ≡ [] → MustGoOn front) → RefusesEnd lines left e → IsReading bytes (Err e)
 ended_at front bytes before [] count lines (BadLine n rule) b is l lacks must why =
-    record { front = front; before = before; text = []; count = count; bytes_are = b; is_before = is; breaks = missing refl (must refl) (why.1.0 refl); number = omega (arith, why.0, l) }
+    record {
+      front = front;
+      before = before;
+      text = [];
+      count = count;
+      bytes_are = b;
+      is_before = is;
+      breaks = missing refl (must refl)
+          (why.1.0 refl);
+      number = omega (arith, why.0, l);
+    }
 ended_at front bytes before (c ∷ left) count lines (BadLine n rule) b is l lacks must why =
     let some : c ∷ left ≢ [] = λ e. cc in
-    record { front = front; before = before; text = c ∷ left; count = count; bytes_are = b; is_before = is; breaks = endless (some, lacks) (why.1.1 some); number = omega (arith, why.0, l) }
+    record {
+      front = front;
+      before = before;
+      text = c ∷ left;
+      count = count;
+      bytes_are = b;
+      is_before = is;
+      breaks = endless (some, lacks)
+          (why.1.1 some);
+      number = omega (arith, why.0, l);
+    }
 ended_at front bytes before left count lines (Limit which) b is l lacks must why = absurd why
 ended_at front bytes before left count lines Memory b is l lacks must why = absurd why
 
 -- one of the first two lines
 pub refused_first : (front : Front) (bytes before left : List ℕ) (count : ℕ) (e : LayoutErr) → count < 2 → bytes ≡ before ++ left → IsBefore front before count
     → MustGoOn front → RefusesFirst front count left e → IsReading bytes (Err e)
-refused_first front bytes before left count e small b is must (inl r) = refused_at front bytes before left r.0 r.1.0 count count e b is (omega (arith, small)) r.1.1.0 r.1.1.1
-refused_first front bytes before left count e small b is must (inr r) = ended_at front bytes before left count count e b is (omega (arith, small)) r.0 (λ none. must) r.1
+refused_first front bytes before left count e small b is must (inl r) = refused_at front bytes before left r.0 r.1.0 count count e b is
+    (omega (arith, small)) r.1.1.0 r.1.1.1
+refused_first front bytes before left count e small b is must (inr r) = ended_at front bytes before left count count e b is (omega (arith, small)) r.0
+    (λ none. must) r.1
 
-spelled : (bytes : List ℕ) (r : Reading) (left : List ℕ) → HasRead bytes r left → IsBefore (behind r.set r.begun) (text_before r.set r.begun) (2 + length (lines_before r.set r.begun))
+spelled : (bytes : List ℕ) (r : Reading) (left : List ℕ) → HasRead bytes r left
+    → IsBefore (behind r.set r.open_entry) (text_before r.set r.open_entry) (2 + length (lines_before r.set r.open_entry))
 spelled bytes r left h = (record { text_is = refl; items = h.0.items; entry = h.0.entry; bounded = h.0.bounded }, refl)
 
-pub refused_line : (bytes : List ℕ) (r : Reading) (left line more : List ℕ) (e : LayoutErr) → HasRead bytes r left → CutAt 10 left line more → RefusesLine r line e → IsReading bytes (Err e)
+pub refused_line : (bytes : List ℕ) (r : Reading) (left line more : List ℕ) (e : LayoutErr) → HasRead bytes r left → CutAt 10 left line more
+    → RefusesLine r line e → IsReading bytes (Err e)
 refused_line bytes r left line more (BadLine n rule) h cut why =
-    refused_at (behind r.set r.begun) bytes (text_before r.set r.begun) left line more (2 + length (lines_before r.set r.begun)) r.lines (BadLine n rule) h.1 (spelled bytes r left h) h.0.lines cut why
+    refused_at (behind r.set r.open_entry) bytes (text_before r.set r.open_entry) left line more (2 + length (lines_before r.set r.open_entry)) r.lines
+    (BadLine n rule) h.1 (spelled bytes r left h) h.0.lines cut why
 refused_line bytes r left line more (Limit which) h cut why =
     record {
       set = r.set;
-      begun = r.begun;
-      before = text_before r.set r.begun;
+      open_entry = r.open_entry;
+      before = text_before r.set r.open_entry;
       text = left;
       line = why.line;
       bytes_are = h.1;
@@ -63,16 +99,18 @@ refused_line bytes r left line more (Limit which) h cut why =
       follows = why.follows;
       is_line = why.is_line;
       whole = (more, subst (λ t. CutAt 10 left t more) why.text_is cut);
-      passes = why.passes;
+      exceeds = why.exceeds;
     }
 refused_line bytes r left line more Memory h cut why = tt
 
-pub refused_end : (bytes : List ℕ) (r : Reading) (left : List ℕ) (e : LayoutErr) → HasRead bytes r left → Lacks 10 left → (left ≡ [] → MustGoOn (behind r.set r.begun)) → RefusesEnd r.lines left e → IsReading bytes (Err e)
+pub refused_end : (bytes : List ℕ) (r : Reading) (left : List ℕ) (e : LayoutErr) → HasRead bytes r left → Lacks 10 left
+    → (left ≡ [] → MustGoOn (behind r.set r.open_entry)) → RefusesEnd r.lines left e → IsReading bytes (Err e)
 refused_end bytes r left e h lacks must why =
-    ended_at (behind r.set r.begun) bytes (text_before r.set r.begun) left (2 + length (lines_before r.set r.begun)) r.lines e h.1 (spelled bytes r left h) h.0.lines lacks must why
+    ended_at (behind r.set r.open_entry) bytes (text_before r.set r.open_entry) left (2 + length (lines_before r.set r.open_entry)) r.lines e h.1
+    (spelled bytes r left h) h.0.lines lacks must why
 
 -- an entry that stands open must go on
-pub must_go_on : (set : Set) (begun : Option OpenEntry) → IsSome begun → MustGoOn (behind set begun)
+pub must_go_on : (set : Set) (open_entry : Option OpenEntry) → IsSome open_entry → MustGoOn (behind set open_entry)
 must_go_on set None h = absurd (cc)
 must_go_on set (Some o) h = tt
 
@@ -82,20 +120,22 @@ joined text line more = ap (λ t. text ++ t) (sym (append_assoc line (10 ∷ [])
 
 pub goes_on : (bytes : List ℕ) (r s : Reading) (left line more : List ℕ) → HasRead bytes r left → CutAt 10 left line more → Goes r line s → HasRead bytes s more
 goes_on bytes r s left line more h cut g =
-    let before = text_before r.set r.begun in
-    let after = added r.set r.begun g.line in
-    let advance = advances r.set r.begun g.line g.follows g.is_line (is_ready r.set r.begun h.0.entry) in
-    let text : text_before s.set s.begun ≡ before ++ with_end line =
-    ap (λ d. text_before d.0 d.1) g.draft_is ∙ advance_text r.set r.begun g.line after advance ∙ ap (λ t. before ++ with_end t) (sym g.text_is) in
+    let before = text_before r.set r.open_entry in
+    let after = added r.set r.open_entry g.line in
+    let advance = advances r.set r.open_entry g.line g.follows g.is_line (is_ready r.set r.open_entry h.0.entry) in
+    let text : text_before s.set s.open_entry ≡ before ++ with_end line =
+    ap (λ d. text_before d.0 d.1) g.draft_is ∙ advance_text r.set r.open_entry g.line after advance ∙ ap (λ t. before ++ with_end t) (sym g.text_is) in
     (g.state, h.1 ∙ ap (λ t. before ++ t) cut.text ∙ joined before line more ∙ ap (λ t. t ++ more) (sym text))
 
 -- nothing is left, and nothing stands open
-all_read_with : (bytes : List ℕ) (set : Set) (begun : Option OpenEntry) → begun ≡ None → bytes ≡ text_before set begun ++ [] → bytes ≡ layout_text set
-all_read_with bytes set begun e t = t ∙ append-nil (text_before set begun) ∙ ap (text_before set) e ∙ append-nil (layout_text set)
+all_read_with : (bytes : List ℕ) (set : Set) (open_entry : Option OpenEntry) → open_entry ≡ None → bytes ≡ text_before set open_entry ++ []
+    → bytes ≡ layout_text set
+all_read_with bytes set open_entry e t = t ∙ append-nil (text_before set open_entry) ∙ ap (text_before set) e ∙ append-nil (layout_text set)
 
-pub all_read : (bytes : List ℕ) (r : Reading) → HasRead bytes r [] → r.begun ≡ None → Spells r.set bytes
+pub all_read : (bytes : List ℕ) (r : Reading) → HasRead bytes r [] → r.open_entry ≡ None → Spells r.set bytes
 all_read bytes r h e = record {
-  text = all_read_with bytes r.set r.begun e h.1;
+  text = all_read_with bytes r.set r.open_entry e h.1;
   items = h.0.items;
-  bounded = let b = subst (IsBoundedBefore r.set) e h.0.bounded in record { types = b.types; parts = let x = b.parts in omega (arith, x); variables = b.variables };
+  bounded = let b = subst (IsBoundedBefore r.set) e h.0.bounded in record
+      { types = b.types; parts = let x = b.parts in omega (arith, x); variables = b.variables };
 }

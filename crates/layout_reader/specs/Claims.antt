@@ -19,11 +19,11 @@ use Rattle.layout_rules.specs.Faults.{Front, first, second, behind, BreaksLine, 
 abbrev pub IsBefore : Front → List ℕ → ℕ → Type 0
 IsBefore first text count = (text ≡ []) × (count ≡ 0)
 IsBefore second text count = (text ≡ with_end version_text) × (count ≡ 1)
-IsBefore (behind set begun) text count = SpellsBefore set begun text × (count ≡ 2 + length (lines_before set begun))
+IsBefore (behind set open_entry) text count = SpellsBefore set open_entry text × (count ≡ 2 + length (lines_before set open_entry))
 
 -- the first line of the text, which has its end
-abbrev pub IsWhole : List ℕ → List ℕ → Type 0
-IsWhole line text = (more : List ℕ) × CutAt 10 text line more
+abbrev pub IsFirstLine : List ℕ → List ℕ → Type 0
+IsFirstLine line text = (more : List ℕ) × CutAt 10 text line more
 
 -- the text is that of a line without its end
 abbrev pub IsEndless : List ℕ → Type 0
@@ -36,7 +36,7 @@ MustGoOn front = Unit {0}
 
 -- the first line of the rest breaks the rule, and none that is lower: a line with its end, one without, or none where one must stand
 pub data Breaks (front : Front) (text : List ℕ) (rule : ℕ) : Type 0 where
-  whole : (line : List ℕ) → IsWhole line text → IsLowest (BreaksLine front line) rule → Breaks front text rule
+  whole : (line : List ℕ) → IsFirstLine line text → IsLowest (BreaksLine front line) rule → Breaks front text rule
   endless : IsEndless text → rule ≡ 1 → Breaks front text rule
   missing : text ≡ [] → MustGoOn front → rule ≡ 2 → Breaks front text rule
 
@@ -52,24 +52,24 @@ pub record IsFault (bytes : List ℕ) (line rule : ℕ) : Type 0 where
   pub number : line ≡ min (count + 1) (2 ^ 32 - 1)
 
 -- with the line there are too many
-abbrev pub Passes : Set → Option OpenEntry → Line → Count → Type 0
-Passes set begun l Types = 20000 < length set.types + line_types l
-Passes set begun l Parts = 40000 < part_count set + open_parts begun + line_parts l
-Passes set begun l Variables = 20000 < variable_count set + line_variables l
+abbrev pub Exceeds : Set → Option OpenEntry → Line → Count → Type 0
+Exceeds set open_entry l Types = 20000 < length set.types + line_types l
+Exceeds set open_entry l Parts = 40000 < part_count set + open_parts open_entry + line_parts l
+Exceeds set open_entry l Variables = 20000 < variable_count set + line_variables l
 
 -- the first line with which there are too many
 pub record IsLimit (bytes : List ℕ) (which : Count) : Type 0 where
   pub set : Set
-  pub begun : Option OpenEntry
+  pub open_entry : Option OpenEntry
   pub before : List ℕ
   pub text : List ℕ
   pub line : Line
   pub bytes_are : bytes ≡ before ++ text
-  pub spells : SpellsBefore set begun before
-  pub follows : may_follow set begun (kind_of_line line) ≡ true
+  pub spells : SpellsBefore set open_entry before
+  pub follows : may_follow set open_entry (kind_of_line line) ≡ true
   pub is_line : IsLine line
-  pub whole : IsWhole (line_text (length set.types) line) text
-  pub passes : Passes set begun line which
+  pub whole : IsFirstLine (line_text (length set.types) line) text
+  pub exceeds : Exceeds set open_entry line which
 
 -- what a reader of layout files answers
 abbrev pub IsReading : List ℕ → Result Set LayoutErr → Type 0

@@ -28,7 +28,7 @@ pub(crate) fn read_head(alloc: Global, bytes: &[u8]) -> Result<(Reading, &[u8]),
     };
     let reading = Reading {
         set,
-        begun: None,
+        open_entry: None,
         parts: 0,
         variables: 0,
         lines: 2,

@@ -1,12 +1,13 @@
 //! Whole layout files, read line by line.
-ghost use Rattle.std.specs.Prelude.{◌≡◌, ◌≢◌, true, length, Some, None};
+ghost use Rattle.std.specs.Prelude.{◌≡◌, ◌≢◌, true, length, Some, None, IfOk};
 ghost use Rattle.layout_reader.specs.Claims.{IsReading};
+ghost use Rattle.layout_set.specs.IsSet.{IsSet};
 ghost use Rattle.layout_rules.specs.Faults.{behind};
 ghost use Rattle.layout_rules.specs.LineRules.{rule_of};
 ghost use Rattle.layout_lines.specs.Lines.{kind_of_line, IsLine};
 ghost use Rattle.layout_lines.specs.ReadLines.{line_of};
 ghost use Rattle.layout_lines.specs.Sets.{may_follow};
-ghost use Rattle.layout_reader.specs.Progress.{IsState, GoesOn, Adds, Exceeds, Refuses, Ends};
+ghost use Rattle.layout_reader.specs.Progress.{IsState, GoesOn, Adds, IsExceeded, Refuses, Ends};
 
 use crate::head::read_head;
 use crate::layout_err::{Count, LayoutErr};
@@ -33,7 +34,7 @@ const MOST_VARIABLES: usize = 20_000;
 #[derive(Drop)]
 pub(crate) struct Reading {
     pub(crate) set: Set,
-    pub(crate) begun: Option<OpenEntry>,
+    pub(crate) open_entry: Option<OpenEntry>,
     pub(crate) parts: usize,
     pub(crate) variables: usize,
     pub(crate) lines: u32,
@@ -41,7 +42,10 @@ pub(crate) struct Reading {
 
 /// The set that the file spells, or its first fault.
 pub fn read(alloc: Global, bytes: &[u8]) -> Result<Set, LayoutErr>
-    ensures { IsReading bytes.now result }
+    ensures reading { IsReading bytes.now result }
+
+    // The names of the set are names of Rust or raw texts.
+    ensures set { IfOk result IsSet }
 {
     let (mut reading, mut rest) = read_head(alloc, bytes)?;
     while let Some((line, more)) = cut_line(rest) {
@@ -59,7 +63,7 @@ pub fn read(alloc: Global, bytes: &[u8]) -> Result<Set, LayoutErr>
 fn is_over(reading: &Reading, rest: &[u8]) -> bool
     ensures { Ends reading.now rest.now result }
 {
-    rest.is_empty() && reading.begun.is_none()
+    rest.is_empty() && reading.open_entry.is_none()
 }
 
 /// The set and the entry that stands open with the line behind their text.
@@ -90,38 +94,38 @@ fn add_read(alloc: Global, reading: Reading, read: Line, line: &[u8]) -> Result<
 
 /// Whether the line may follow.
 fn follows(reading: &Reading, line: &Line) -> bool
-    ensures { result ≡ may_follow reading.now.set reading.now.begun (kind_of_line line.now) }
+    ensures { result ≡ may_follow reading.now.set reading.now.open_entry (kind_of_line line.now) }
 {
-    may_follow(&reading.set, reading.begun.as_ref(), kind_of(line))
+    may_follow(&reading.set, reading.open_entry.as_ref(), kind_of(line))
 }
 
 /// Why the line is refused that follows their text.
 fn refuse_behind(alloc: Global, reading: &Reading, line: &[u8]) -> LayoutErr
-    requires { rule_of (behind reading.now.set reading.now.begun) line.now ≢ None }
-    ensures { Refuses (behind reading.now.set reading.now.begun) reading.now.lines line.now result }
+    requires { rule_of (behind reading.now.set reading.now.open_entry) line.now ≢ None }
+    ensures { Refuses (behind reading.now.set reading.now.open_entry) reading.now.lines line.now result }
 {
-    let front = Front::Behind(&reading.set, reading.begun.as_ref());
+    let front = Front::Behind(&reading.set, reading.open_entry.as_ref());
     refuse(alloc, front, reading.lines, line)
 }
 
 /// The set and the entry that stands open with the line, if there are not too many of anything then.
 fn add(alloc: Global, reading: Reading, line: Line) -> Result<Reading, LayoutErr>
     requires state { IsState reading }
-    requires follows { may_follow reading.set reading.begun (kind_of_line line) ≡ true }
+    requires follows { may_follow reading.set reading.open_entry (kind_of_line line) ≡ true }
     requires line { IsLine line }
     ensures { Adds reading line result }
 {
-    match passed(&reading, &line) {
+    match exceeded(&reading, &line) {
         Some(which) => return Err(LayoutErr::Limit { which }),
         None => {}
     }
     let parts = reading.parts + parts_in(&line);
     let variables = reading.variables + variables_in(&line);
     let lines = reading.lines.saturating_add(1);
-    let (set, begun) = added(alloc, reading.set, reading.begun, line)?;
+    let (set, open_entry) = added(alloc, reading.set, reading.open_entry, line)?;
     Ok(Reading {
         set,
-        begun,
+        open_entry,
         parts,
         variables,
         lines,
@@ -129,8 +133,8 @@ fn add(alloc: Global, reading: Reading, line: Line) -> Result<Reading, LayoutErr
 }
 
 /// What there would be too many of with the line.
-fn passed(reading: &Reading, line: &Line) -> Option<Count>
-    ensures { Exceeds reading.now line.now result }
+fn exceeded(reading: &Reading, line: &Line) -> Option<Count>
+    ensures { IsExceeded reading.now line.now result }
 {
     let types = reading.set.types.as_slice().len();
     if types.saturating_add(types_in(line)) > MOST_TYPES {

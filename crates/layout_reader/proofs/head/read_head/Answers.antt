@@ -15,4 +15,5 @@ pub returns-in_err-ptr : goal.returns-in_err-ptr
 returns-in_err-ptr c =
     let p = err_from_is_err_and c.from_residual-in_err-ptr.result c.from_residual-in_err-ptr.ensures.1 in
     let text = c.in_ok-rest.ensures.text ∙ sym (append_assoc version_text (10 ∷ []) c.in_ok-rest.rest.now) in
-    rw (p.1, p.2) (refused_first second c.args.bytes.now (with_end version_text) c.in_ok-rest.rest.now 1 c.in_err-ptr.field-0.0 (lit< tt) text (refl, refl) tt c.in_err-ptr.ensures)
+    rw (p.1, p.2) (refused_first second c.args.bytes.now (with_end version_text) c.in_ok-rest.rest.now 1 c.in_err-ptr.field-0.0 (lit< tt) text
+    (refl, refl) tt c.in_err-ptr.ensures)

@@ -9,6 +9,6 @@ add_read-requires-clause-read c = subst (λ ts. line_of (length ts) c.args.line.
 
 pub refuse_behind-requires : goal.refuse_behind-requires
 refuse_behind-requires c =
-    unfit_rule c.args.reading.set c.args.reading.begun c.args.line.now
+    unfit_rule c.args.reading.set c.args.reading.open_entry c.args.line.now
     (subst (λ ts. line_of (length ts) c.args.line.now ≡ None) c.as_slice.ensures
     (subst (Read (line_of (length c.as_slice.result.now) c.args.line.now)) (c.in-Err-Unfit.is ∙ ap Err c.in-Err-Unfit.field-0-is) c.line_of.ensures))
