@@ -35,6 +35,22 @@ def best(words, begin=None):
     return min(took for took, _ in runs), max(peak for _, peak in runs)
 
 
+def best_of_both(words, before, begin=None):
+    """What `best` gives for the words, and for the same words with the program `before`, run in turn."""
+    runs = [(run(words, begin), run([before] + words[1:], begin)) for _ in range(5)]
+    return [(min(took for took, _ in of), max(peak for _, peak in of)) for of in zip(*runs)]
+
+
+def take_option(name):
+    """The word after the option, which both leave the script's words; None where it isn't there."""
+    if name not in sys.argv:
+        return None
+    at = sys.argv.index(name)
+    word = sys.argv[at + 1] if at + 1 < len(sys.argv) else sys.exit('%s needs a word' % name)
+    del sys.argv[at:at + 2]
+    return word
+
+
 @contextlib.contextmanager
 def program_and_folder(usage):
     """The program that the script was given, and a new folder for its files, in the directory that it was given if any."""
@@ -51,6 +67,12 @@ def print_head(what):
 def print_row(name, size, once, twice):
     """`once` and `twice` are what `best` gave for n and 2n, and `size` is the bytes of the files of 2n."""
     print('%-22s %10d %8.3fs %8.3fs %6.2f %12.1f' % (name, size, once[0], twice[0], twice[0] / once[0], twice[1] / size))
+
+
+def print_both(name, now, before):
+    """What `best` gave for a program and for the one of before."""
+    print('%-22s %9.3fs %9.3fs %6.2f %11d %11d %6.2f' % (
+        name, now[0], before[0], now[0] / before[0], now[1], before[1], now[1] / before[1]))
 
 
 def start():

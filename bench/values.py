@@ -1,11 +1,14 @@
 #!/usr/bin/env python3
 """Time and peak memory of `rdbg text L S` for n and 2n statics of nested enums, texts, slices and structs, over snapshots of n and 2n bytes.
 
-    bench/values.py PROGRAM [DIRECTORY]
+    bench/values.py PROGRAM [DIRECTORY] [--before OLD]
 
 Makes a layout and snapshots up to nearly 64 MiB, runs the program on them, and prints for each row the best of three times for n and
 2n, their ratio, and the peak memory as a multiple of the files' size. Linear time has a ratio near 2. The last row asks for a slice that
 claims 2^62 elements, of which two are shown: its time doesn't depend on the length.
+
+With `--before OLD` the same files of 2n are also read by the program OLD, five times each in turn, and a second table has the best times
+and the peaks in bytes of both, with their ratios.
 """
 import os
 import random
@@ -60,6 +63,8 @@ def write_snapshot(path, statics, size):
 
 
 def main():
+    before = measure.take_option('--before')
+    compared = []
     with measure.program_and_folder(__doc__) as (program, folder):
         files = [os.path.join(folder, name) for name in ('layout.txt', 'snapshot.txt')]
         measure.print_head('what')
@@ -70,12 +75,18 @@ def main():
                 write_snapshot(files[1], statics * times, size * times)
                 runs.append(measure.best([program, 'text'] + files, b'pc 0x0\n'))
             measure.print_row(name, sum(os.path.getsize(file) for file in files), *runs)
+            if before is not None:
+                compared.append((name, *measure.best_of_both([program, 'text'] + files, os.path.abspath(before), b'pc 0x0\n')))
         with open(files[0], 'w') as out:
             out.write('rdbg-layout 1\ntarget 8\ntype 0 thin const ()\ntype 1 thin const u8\ntype 2 slice ref #1 &[u8]\nstatic 0x1000 #2 demo::S\n')
         with open(files[1], 'w') as out:
             out.write('rdbg-snapshot 1\npc 0x0\nmem 0x1000 00200000000000000000000000000040\nmem 0x2000 0102\n')
         took, _ = measure.best([program, 'text'] + files + ['--depth', '1', '--width', '2'], b'pc 0x0\nstatic demo::S = &[0x2000; 4611686018427387904]')
         print('%-22s %31.3fs' % ('2^62 elements claimed', took))
+    if before is not None:
+        print('\n%-22s %10s %10s %6s %11s %11s %6s' % ('what', 'now', 'before', 'ratio', 'peak', 'before', 'ratio'))
+    for row in compared:
+        measure.print_both(*row)
 
 
 if __name__ == '__main__':

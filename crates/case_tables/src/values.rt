@@ -10,15 +10,16 @@ use crate::named::Named;
 use crate::places::snapshot_of;
 use crate::sets::set_of;
 use crate::words::{first, set_file};
+use bumpalo::Bump;
 use image_view::Image;
 use layout_model::check_sound;
 use layout_set::{CheckErr, Set, TypeDef, TypeRef, size_of};
 use layout_values::Outcome;
-use rust_value::{Val, nodes, text};
+use rust_value::{Val, nodes, text, text_in};
 use rv_io::Buf;
 use snapshot_file::Mem;
 use std::alloc::Global;
-use value_reader::{read_value, select};
+use value_reader::{OutcomeIn, read_in, read_value, select};
 
 /// Where the values of rows are.
 const PLACE: u64 = 0x1000;
@@ -49,7 +50,11 @@ fn outcome_text(
     let size = sound_size(alloc, set, ty)?;
     let image = Image::of_mem(memory, PLACE, size);
     match outcome(alloc, set, ty, image, memory, depth, width)? {
-        Outcome::Value(value) => value_text(alloc, &value),
+        Outcome::Value(value) => {
+            let image = Image::of_mem(memory, PLACE, size);
+            let held = held_text(alloc, set, ty, image, memory, depth, width)?;
+            value_text(alloc, &value, held.as_str())
+        }
         Outcome::Unavailable => Ok(String::from_str(alloc, "unavailable")?),
         Outcome::Invalid => Ok(String::from_str(alloc, "invalid")?),
         Outcome::TooLarge => Ok(String::from_str(alloc, "too large")?),
@@ -76,15 +81,44 @@ fn outcome(
     }
 }
 
-/// How many nodes a value has, and its text.
-fn value_text(alloc: Global, value: &Val) -> Result<String, Mistake>
+/// The text of what is read into an arena, in a sound set, if it is a value.
+fn held_text(
+    alloc: Global,
+    set: &Set,
+    ty: TypeRef,
+    image: Image<'_>,
+    memory: &Mem,
+    depth: u32,
+    width: u32,
+) -> Result<String, Mistake>
+    requires { depth ≤ 4 }
+{
+    let mut out = Buf::new(alloc);
+    let bump = Bump::new(alloc);
+    match check_sound(alloc, set) {
+        Ok(()) => match read_in(&bump, set, ty, image, memory, depth, width)? {
+            OutcomeIn::Value(value) => text_in(&value, &mut out)?,
+            OutcomeIn::Unavailable | OutcomeIn::Invalid | OutcomeIn::TooLarge => {}
+        },
+        Err(CheckErr::Breach { .. }) => return Err(Mistake::NotOfTheForm),
+        Err(CheckErr::Memory) => return Err(Mistake::Memory),
+    }
+    Ok(String::from_utf8_lossy(alloc, out.as_bytes())?)
+}
+
+/// How many nodes a value has, and its text; another text that the value has in an arena comes after it.
+fn value_text(alloc: Global, value: &Val, held: &str) -> Result<String, Mistake>
     requires { IsTrue (has_texts value.now) }
 {
     let mut out = Buf::new(alloc);
     text(value, &mut out)?;
     let count = nodes(value);
     let shown = String::from_utf8_lossy(alloc, out.as_bytes())?;
-    Ok(format!(in alloc; "{count} {shown}")?)
+    if shown.as_str() == held {
+        Ok(format!(in alloc; "{count} {shown}")?)
+    } else {
+        Ok(format!(in alloc; "{count} {shown}, in an arena {held}")?)
+    }
 }
 
 /// Of `TYPE` its size.

@@ -5,22 +5,23 @@ ghost use Rattle.layout_values.specs.Contexts.{context_of};
 ghost use Rattle.layout_set.specs.HasSizes.{HasSizes};
 ghost use Rattle.layout_set.specs.Law1.{IsWithin};
 ghost use Rattle.layout_values.specs.Outcomes.{HasTexts, IsOutcome};
+ghost use Rattle.value_reader.specs.OutcomesIn.{outcome_of};
 ghost use Rattle.layout_values.specs.Shown.{IsShownAt};
 ghost use Rattle.dbg_command.specs.Lines.{AreEach, IsStaticLine, Prints, pc_line, static_line};
 
 use crate::shown::put_outcome;
 use crate::view::View;
+use bumpalo::Bump;
 use image_view::Image;
 use layout_file::put_name;
 use layout_set::{Set, Static, TypeRef, size_of};
-use layout_values::Outcome;
 use rv_io::{Buf, Memory};
 use snapshot_file::Snapshot;
 use std::alloc::Global;
-use value_reader::read_value;
+use value_reader::{OutcomeIn, read_in};
 
 /// Appends all that is printed of a set over a snapshot. References and boxes are followed so deep, and of each sequence so
-/// many elements are shown at most. After want of memory the buffer is as before.
+/// many elements are shown at most. When out of memory the buffer is as before.
 pub fn lines(
     alloc: Global,
     set: &Set,
@@ -31,7 +32,8 @@ pub fn lines(
 ) -> Result<(), Memory>
     requires sizes { HasSizes set.now }
     requires shallow { depth ≤ 4 }
-    ensures put { OnOk result ((text : List ℕ) × (out.new ≡ out.old ++ text) × Prints set.now depth width snap.now text) }
+    ensures put { OnOk result ((text : List ℕ) × (out.new ≡ out.old ++ text)
+        × Prints set.now depth width snap.now text) }
     ensures same { OnErr result (out.new ≡ out.old) }
 {
     let len = out.as_bytes().len();
@@ -61,7 +63,8 @@ impl View<'_> {
     fn put_lines(&self, alloc: Global, out: &mut Buf) -> Result<(), Memory>
         requires sizes { HasSizes self.now.set.now }
         requires shallow { self.now.depth ≤ 4 }
-        ensures put { OnOk result ((text : List ℕ) × (out.new ≡ out.old ++ text) × Prints self.now.set.now self.now.depth self.now.width self.now.snap.now text) }
+        ensures put { OnOk result ((text : List ℕ) × (out.new ≡ out.old ++ text)
+            × Prints self.now.set.now self.now.depth self.now.width self.now.snap.now text) }
         ensures front { OnErr result (take (length out.old) out.new ≡ out.old) }
     {
         put_pc(alloc, self.snap.pc, out)?;
@@ -73,7 +76,9 @@ impl View<'_> {
     fn put_statics(&self, alloc: Global, out: &mut Buf) -> Result<(), Memory>
         requires sizes { HasSizes self.now.set.now }
         requires shallow { self.now.depth ≤ 4 }
-        ensures put { OnOk result ((text : List ℕ) × (out.new ≡ out.old ++ text) × AreEach (IsStaticLine (context_of self.now.set.now self.now.snap.now.mem self.now.width) self.now.depth) self.now.set.now.statics text) }
+        ensures put { OnOk result ((text : List ℕ) × (out.new ≡ out.old ++ text) × AreEach
+            (IsStaticLine (context_of self.now.set.now self.now.snap.now.mem self.now.width)
+            self.now.depth) self.now.set.now.statics text) }
         ensures front { OnErr result (take (length out.old) out.new ≡ out.old) }
     {
         for index in 0..self.set.statics.as_slice().len() {
@@ -87,45 +92,57 @@ impl View<'_> {
         requires within { index < length self.now.set.now.statics }
         requires sizes { HasSizes self.now.set.now }
         requires shallow { self.now.depth ≤ 4 }
-        ensures put { OnOk result ((line : List ℕ) × (out.new ≡ out.old ++ line) × HoldsAt (λ s. IsStaticLine (context_of self.now.set.now self.now.snap.now.mem self.now.width) self.now.depth s line) self.now.set.now.statics index) }
+        ensures put { OnOk result ((line : List ℕ) × (out.new ≡ out.old ++ line) × HoldsAt (λ s.
+            IsStaticLine (context_of self.now.set.now self.now.snap.now.mem self.now.width)
+            self.now.depth s line) self.now.set.now.statics index) }
         ensures front { OnErr result (take (length out.old) out.new ≡ out.old) }
     {
         let item = &self.set.statics.as_slice()[index];
-        let outcome = self.outcome_at(alloc, item.ty, item.addr)?;
+        let bump = Bump::new(alloc);
+        let outcome = self.outcome_at(&bump, item.ty, item.addr)?;
         put_static(item, outcome, out)
     }
 
-    /// What is shown of a static of this type at this address.
-    fn outcome_at(&self, alloc: Global, ty: TypeRef, addr: Option<u64>) -> Result<Outcome, Memory>
+    /// What is shown of a static of this type at this address, in the arena.
+    fn outcome_at<'b>(
+        &self,
+        bump: &'b Bump,
+        ty: TypeRef,
+        addr: Option<u64>,
+    ) -> Result<OutcomeIn<'b>, Memory>
         requires sizes { HasSizes self.now.set.now }
         requires within { IsWithin (length self.now.set.now.types) ty }
         requires shallow { self.now.depth ≤ 4 }
-        ensures outcome { IfOk result (λ o. IsShownAt (context_of self.now.set.now self.now.snap.now.mem self.now.width) self.now.depth ty addr o) }
-        ensures texts { IfOk result HasTexts }
+        ensures outcome { IfOk result (λ o. IsShownAt
+            (context_of self.now.set.now self.now.snap.now.mem self.now.width) self.now.depth ty
+            addr (outcome_of o)) }
+        ensures texts { IfOk result (λ o. HasTexts (outcome_of o)) }
     {
         match addr {
             Some(at) => {
                 let image = Image::of_mem(&self.snap.mem, at, size_of(self.set, ty));
-                self.outcome_in(alloc, ty, image)
+                self.outcome_in(bump, ty, image)
             }
-            None => Ok(Outcome::Unavailable),
+            None => Ok(OutcomeIn::Unavailable),
         }
     }
 
-    /// What is shown of an image of this type.
-    pub(crate) fn outcome_in(
+    /// What is shown of an image of this type, in the arena.
+    pub(crate) fn outcome_in<'b>(
         &self,
-        alloc: Global,
+        bump: &'b Bump,
         ty: TypeRef,
         image: Image<'_>,
-    ) -> Result<Outcome, Memory>
+    ) -> Result<OutcomeIn<'b>, Memory>
         requires sizes { HasSizes self.now.set.now }
         requires shallow { self.now.depth ≤ 4 }
-        ensures outcome { IfOk result (IsOutcome (context_of self.now.set.now self.now.snap.now.mem self.now.width) self.now.depth ty (part_of image.entry)) }
-        ensures texts { IfOk result HasTexts }
+        ensures outcome { IfOk result (λ o. IsOutcome
+            (context_of self.now.set.now self.now.snap.now.mem self.now.width) self.now.depth ty
+            (part_of image.entry) (outcome_of o)) }
+        ensures texts { IfOk result (λ o. HasTexts (outcome_of o)) }
     {
-        read_value(
-            alloc,
+        read_in(
+            bump,
             self.set,
             ty,
             image,
@@ -136,9 +153,10 @@ impl View<'_> {
     }
 }
 
-fn put_static(item: &Static, outcome: Outcome, out: &mut Buf) -> Result<(), Memory>
-    requires { HasTexts outcome }
-    ensures put { OnOk result (out.new ≡ out.old ++ static_line item.now outcome) }
+/// The line of a static of which this is shown.
+fn put_static(item: &Static, outcome: OutcomeIn<'_>, out: &mut Buf) -> Result<(), Memory>
+    requires { HasTexts (outcome_of outcome) }
+    ensures put { OnOk result (out.new ≡ out.old ++ static_line item.now (outcome_of outcome.entry)) }
     ensures front { OnErr result (take (length out.old) out.new ≡ out.old) }
 {
     out.put(b"static ")?;

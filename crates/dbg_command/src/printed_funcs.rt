@@ -10,24 +10,28 @@ ghost use Rattle.layout_values.specs.Outcomes.{HasTexts};
 ghost use Rattle.layout_values.specs.Places.{place_of};
 ghost use Rattle.layout_values.specs.Shown.{IsVarShown};
 ghost use Rattle.layout_set.specs.Sizes.{size};
+ghost use Rattle.value_reader.specs.OutcomesIn.{outcome_of};
 ghost use Rattle.dbg_command.specs.Lines.{AreEach, AreVarLines, IsFuncText, IsVarLine, func_line, var_line, is_in, is_entered, is_called, first_is_entered};
 
 use crate::shown::put_outcome;
 use crate::view::View;
+use bumpalo::Bump;
 use layout_file::put_name;
 use layout_set::{Func, Scope, Set, Var, Zone, size_of};
-use layout_values::Outcome;
 use rv_io::{Buf, Memory};
 use snapshot_file::Snapshot;
 use std::alloc::Global;
-use value_reader::{Located, locate};
+use value_reader::{Located, OutcomeIn, locate};
 
 impl View<'_> {
     /// The functions whose body has the program counter, each with its variables.
     pub(crate) fn put_funcs(&self, alloc: Global, out: &mut Buf) -> Result<(), Memory>
         requires sizes { HasSizes self.now.set.now }
         requires shallow { self.now.depth ≤ 4 }
-        ensures put { OnOk result ((text : List ℕ) × (out.new ≡ out.old ++ text) × AreEach (IsFuncText (context_of self.now.set.now self.now.snap.now.mem self.now.width) self.now.snap.now self.now.depth) (filter (is_called self.now.snap.now.pc) self.now.set.now.funcs) text) }
+        ensures put { OnOk result ((text : List ℕ) × (out.new ≡ out.old ++ text) × AreEach
+            (IsFuncText (context_of self.now.set.now self.now.snap.now.mem self.now.width)
+            self.now.snap.now self.now.depth) (filter (is_called self.now.snap.now.pc)
+            self.now.set.now.funcs) text) }
         ensures front { OnErr result (take (length out.old) out.new ≡ out.old) }
     {
         self.put_called(alloc, self.set.funcs.as_slice(), out)
@@ -38,7 +42,10 @@ impl View<'_> {
         requires sizes { HasSizes self.now.set.now }
         requires within { All (HasVarsWithin (length self.now.set.now.types)) funcs.now }
         requires shallow { self.now.depth ≤ 4 }
-        ensures put { OnOk result ((text : List ℕ) × (out.new ≡ out.old ++ text) × AreEach (IsFuncText (context_of self.now.set.now self.now.snap.now.mem self.now.width) self.now.snap.now self.now.depth) (filter (is_called self.now.snap.now.pc) funcs.now) text) }
+        ensures put { OnOk result ((text : List ℕ) × (out.new ≡ out.old ++ text) × AreEach
+            (IsFuncText (context_of self.now.set.now self.now.snap.now.mem self.now.width)
+            self.now.snap.now self.now.depth) (filter (is_called self.now.snap.now.pc) funcs.now)
+            text) }
         ensures front { OnErr result (take (length out.old) out.new ≡ out.old) }
     {
         for func in funcs {
@@ -54,7 +61,9 @@ impl View<'_> {
         requires sizes { HasSizes self.now.set.now }
         requires within { HasVarsWithin (length self.now.set.now.types) func.now }
         requires shallow { self.now.depth ≤ 4 }
-        ensures put { OnOk result ((text : List ℕ) × (out.new ≡ out.old ++ text) × IsFuncText (context_of self.now.set.now self.now.snap.now.mem self.now.width) self.now.snap.now self.now.depth func.now text) }
+        ensures put { OnOk result ((text : List ℕ) × (out.new ≡ out.old ++ text) × IsFuncText
+            (context_of self.now.set.now self.now.snap.now.mem self.now.width) self.now.snap.now
+            self.now.depth func.now text) }
         ensures front { OnErr result (take (length out.old) out.new ≡ out.old) }
     {
         put_func_line(func, out)?;
@@ -66,7 +75,10 @@ impl View<'_> {
         requires sizes { HasSizes self.now.set.now }
         requires within { All (VarsWithin (length self.now.set.now.types)) scopes.now }
         requires shallow { self.now.depth ≤ 4 }
-        ensures put { OnOk result ((text : List ℕ) × (out.new ≡ out.old ++ text) × AreEach (AreVarLines (context_of self.now.set.now self.now.snap.now.mem self.now.width) self.now.snap.now self.now.depth) (filter (is_entered self.now.snap.now.pc) scopes.now) text) }
+        ensures put { OnOk result ((text : List ℕ) × (out.new ≡ out.old ++ text) × AreEach
+            (AreVarLines (context_of self.now.set.now self.now.snap.now.mem self.now.width)
+            self.now.snap.now self.now.depth) (filter (is_entered self.now.snap.now.pc) scopes.now)
+            text) }
         ensures front { OnErr result (take (length out.old) out.new ≡ out.old) }
     {
         for scope in scopes {
@@ -82,27 +94,50 @@ impl View<'_> {
         requires sizes { HasSizes self.now.set.now }
         requires within { All (VarWithin (length self.now.set.now.types)) vars.now }
         requires shallow { self.now.depth ≤ 4 }
-        ensures put { OnOk result ((text : List ℕ) × (out.new ≡ out.old ++ text) × AreEach (IsVarLine (context_of self.now.set.now self.now.snap.now.mem self.now.width) self.now.snap.now self.now.depth) vars.now text) }
+        ensures put { OnOk result ((text : List ℕ) × (out.new ≡ out.old ++ text) × AreEach
+            (IsVarLine (context_of self.now.set.now self.now.snap.now.mem self.now.width)
+            self.now.snap.now self.now.depth) vars.now text) }
         ensures front { OnErr result (take (length out.old) out.new ≡ out.old) }
     {
         for var in vars {
-            let outcome = self.outcome_of(alloc, var)?;
-            put_var(var, outcome, out)?;
+            self.put_var(alloc, var, out)?;
         }
         Ok(())
     }
 
-    /// What is shown of a variable.
-    fn outcome_of(&self, alloc: Global, var: &Var) -> Result<Outcome, Memory>
+    /// The line of a variable.
+    fn put_var(&self, alloc: Global, var: &Var, out: &mut Buf) -> Result<(), Memory>
         requires sizes { HasSizes self.now.set.now }
         requires within { VarWithin (length self.now.set.now.types) var.now }
         requires shallow { self.now.depth ≤ 4 }
-        ensures outcome { IfOk result (IsVarShown (context_of self.now.set.now self.now.snap.now.mem self.now.width) self.now.snap.now self.now.depth var.now) }
-        ensures texts { IfOk result HasTexts }
+        ensures put { OnOk result ((line : List ℕ) × (out.new ≡ out.old ++ line) × IsVarLine
+            (context_of self.now.set.now self.now.snap.now.mem self.now.width) self.now.snap.now
+            self.now.depth var.now line) }
+        ensures front { OnErr result (take (length out.old) out.new ≡ out.old) }
+    {
+        let bump = Bump::new(alloc);
+        let outcome = self.outcome_of_var(&bump, alloc, var)?;
+        put_var_line(var, outcome, out)
+    }
+
+    /// What is shown of a variable, in the arena.
+    fn outcome_of_var<'b>(
+        &self,
+        bump: &'b Bump,
+        alloc: Global,
+        var: &Var,
+    ) -> Result<OutcomeIn<'b>, Memory>
+        requires sizes { HasSizes self.now.set.now }
+        requires within { VarWithin (length self.now.set.now.types) var.now }
+        requires shallow { self.now.depth ≤ 4 }
+        ensures outcome { IfOk result (λ o. IsVarShown
+            (context_of self.now.set.now self.now.snap.now.mem self.now.width) self.now.snap.now
+            self.now.depth var.now (outcome_of o)) }
+        ensures texts { IfOk result (λ o. HasTexts (outcome_of o)) }
     {
         match located(alloc, self.set, var, self.snap)? {
-            Some(located) => self.outcome_in(alloc, var.ty, located.image()),
-            None => Ok(Outcome::Unavailable),
+            Some(located) => self.outcome_in(bump, var.ty, located.image()),
+            None => Ok(OutcomeIn::Unavailable),
         }
     }
 }
@@ -116,7 +151,8 @@ fn located<'a>(
 ) -> Result<Option<Located<'a>>, Memory>
     requires sizes { HasSizes set.now }
     requires within { VarWithin (length set.now.types) var.now }
-    ensures { IfOk result (λ found. option_map (λ l. part_of l) found ≡ place_of set.now.target.ptr snap.now var.now.entries (size set.now.target.ptr set.now.types var.now.ty)) }
+    ensures { IfOk result (λ found. option_map (λ l. part_of l) found ≡ place_of set.now.target.ptr
+        snap.now var.now.entries (size set.now.target.ptr set.now.types var.now.ty)) }
 {
     locate(alloc, &var.entries, size_of(set, var.ty), snap)
 }
@@ -166,9 +202,10 @@ fn put_func_line(func: &Func, out: &mut Buf) -> Result<(), Memory>
     out.put(b"\n")
 }
 
-fn put_var(var: &Var, outcome: Outcome, out: &mut Buf) -> Result<(), Memory>
-    requires { HasTexts outcome }
-    ensures put { OnOk result (out.new ≡ out.old ++ var_line var.now outcome) }
+/// The line of a variable of which this is shown.
+fn put_var_line(var: &Var, outcome: OutcomeIn<'_>, out: &mut Buf) -> Result<(), Memory>
+    requires { HasTexts (outcome_of outcome) }
+    ensures put { OnOk result (out.new ≡ out.old ++ var_line var.now (outcome_of outcome.entry)) }
     ensures front { OnErr result (take (length out.old) out.new ≡ out.old) }
 {
     out.put(b"  ")?;

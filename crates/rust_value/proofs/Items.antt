@@ -5,6 +5,7 @@ use Rattle.std.proofs.lemmas.Grind.{common_steps, flat_map-append}
 use Rattle.std.proofs.lemmas.List.{take-append-drop, append-nil, map_more, length-append}
 use Rattle.std.proofs.Math.Dec.{eqb-suc-zero}
 use Rattle.std.proofs.Math.Seq.{take-append_seam}
+use Rattle.std.specs.Prelude.{Result, Ok, Err, OnErr}
 use Rattle.std.specs.List.{flat_map}
 use Rattle.names.specs.Joined.{joined}
 use Rattle.rust_value.specs.Utf8.{all_true}
@@ -20,7 +21,7 @@ shorter_front old mid new rest e h =
 pub front_before : (old mid long new rest more : List ℕ) → mid ≡ old ++ rest → long ≡ mid ++ more → take (length long) new ≡ long → take (length old) new ≡ old
 front_before old mid long new rest more e f h = shorter_front old mid new rest e (shorter_front mid long new more f h)
 
-both_true : (a b : Bool) → (a && b) ≡ true → (a ≡ true) × (b ≡ true)
+pub both_true : (a b : Bool) → (a && b) ≡ true → (a ≡ true) × (b ≡ true)
 both_true true b h = (refl, h)
 both_true false b h = absurd (cc)
 
@@ -55,3 +56,9 @@ put_next f sep xs i x start before mid after l e b m a =
     ap (λ k. done ++ (comma k sep ++ f x)) n in
     a ∙ ap (λ t. t ++ f x) (m ∙ ap (λ t. t ++ last) b) ∙ append_assoc (start ++ done) last (f x) ∙ append_assoc start done (last ++ f x) ∙
     ap (λ t. start ++ t) (sym push)
+
+-- what a refused call keeps, where more was put before it
+pub err_front : {T E : Type 0} (result : Result T E) (old mid new rest : List ℕ) → mid ≡ old ++ rest →
+    OnErr result (take (length mid) new ≡ mid) → OnErr result (take (length old) new ≡ old)
+err_front (Ok x) old mid new rest e h = tt
+err_front (Err x) old mid new rest e h = shorter_front old mid new rest e h

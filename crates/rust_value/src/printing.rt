@@ -129,7 +129,7 @@ fn has_numbered(parts: &[Part]) -> bool
 }
 
 /// The name is that of the field with this number in a tuple.
-fn is_number_name(name: &[u8], i: usize) -> bool
+pub(crate) fn is_number_name(name: &[u8], i: usize) -> bool
     ensures { result ≡ bytes_eq name.now (number_name i) }
 {
     match name {
@@ -195,7 +195,7 @@ fn put_seq(len: u64, shown: &[Val], out: &mut Buf) -> Result<(), Memory>
 }
 
 /// A comma and a space, before each item but the first.
-fn put_comma(i: usize, out: &mut Buf) -> Result<(), Memory>
+pub(crate) fn put_comma(i: usize, out: &mut Buf) -> Result<(), Memory>
     ensures appended { OnOk result (out.new ≡ out.old ++ (if i == 0 then [] else codes ", ")) }
     ensures same { OnErr result (out.new ≡ out.old) }
 {
@@ -203,7 +203,7 @@ fn put_comma(i: usize, out: &mut Buf) -> Result<(), Memory>
 }
 
 /// How many elements are not shown, after others or not.
-fn put_more(more: u64, after: bool, out: &mut Buf) -> Result<(), Memory>
+pub(crate) fn put_more(more: u64, after: bool, out: &mut Buf) -> Result<(), Memory>
     ensures appended { OnOk result (out.new ≡ out.old ++ (if after then codes ", " else []) ++ (codes ".. " ++ decimal more ++ codes " more")) }
     ensures front { OnErr result (take (length out.old) out.new ≡ out.old) }
 {

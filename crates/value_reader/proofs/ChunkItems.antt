@@ -33,7 +33,8 @@ same_number [] = refl
 same_number (b ∷ bytes) = ap (λ n. b + 256 * n) (same_number bytes ∙ sym (little_from-cons 0 (length bytes) b bytes))
 
 -- an address past the number in a register
-pub past_register : (snap : Snapshot) (reg : Reg) (n : ℤ) (bytes : List ℕ) (low : ℕ) → register snap.regs reg ≡ Some bytes → low ≡ little_number (length bytes) bytes % 2 ^ 64
+pub past_register : (snap : Snapshot) (reg : Reg) (n : ℤ) (bytes : List ℕ) (low : ℕ) → register snap.regs reg ≡ Some bytes →
+    low ≡ little_number (length bytes) bytes % 2 ^ 64
     → Some ((low + cast_unsigned w64 n) % 2 ^ 64) ≡ address_by 8 snap reg n
 past_register snap reg n bytes low e f =
     ap (λ l. Some ((l + cast_unsigned w64 n) % 2 ^ 64)) f

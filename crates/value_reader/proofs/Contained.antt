@@ -37,7 +37,8 @@ pub of_fields : (P : TypeRef → Type 0) (fields : List Field) → AllByRecursio
 of_fields P [] a = tt
 of_fields P (f ∷ fields) a = (a.0, of_fields P fields a.1)
 
-pub of_variants : (P : TypeRef → Type 0) (variants : List Variant) → AllByRecursion P (variant_types variants) → AllByRecursion (λ v. OfFields P v.fields) variants
+pub of_variants : (P : TypeRef → Type 0) (variants : List Variant) → AllByRecursion P (variant_types variants) →
+    AllByRecursion (λ v. OfFields P v.fields) variants
 of_variants P [] a = tt
 of_variants P (v ∷ variants) a = let r = split P (field_types v.fields) (variant_types variants) a in (of_fields P v.fields r.0, of_variants P variants r.1)
 

@@ -1,5 +1,6 @@
 -- So many levels are enough: more of them change nothing.
-use Rattle.std.proofs.Common.{◌≡◌, ◌∙◌, sym, ap, refl, ℕ, zero, suc, ◌+◌, ◌-◌, ◌*◌, ◌<◌, ◌≤◌, Bool, true, false, cond, List, [], ◌∷◌, map, Option, Some, None, arith, nat_lt, ◌&&◌}
+use Rattle.std.proofs.Common.{◌≡◌, ◌∙◌, sym, ap, refl, ℕ, zero, suc, ◌+◌, ◌-◌, ◌*◌, ◌<◌, ◌≤◌, Bool, true, false, cond, List, [], ◌∷◌, map, Option}
+use Rattle.std.proofs.Common.{Some, None, arith, nat_lt, ◌&&◌}
 use Rattle.std.proofs.lemmas.Bool.{lt-ltb}
 use Rattle.std.proofs.lemmas.Option.{slice_get_within}
 use Rattle.std.specs.Prelude.{slice_get, ◌↔◌}
@@ -24,7 +25,7 @@ use Rattle.layout_values.specs.Pointers.{below, pointee}
 use Rattle.layout_set.specs.References.{contents}
 use Rattle.layout_values.specs.Walk.{Doing, go_field, go_content, go_far, go_thin, go_slice, go_variant, go_enum, go_def, walk}
 use Rattle.layout_set.proofs.SizeLevels.{HasChains, element_chains, shallow_chains}
-use Rattle.value_reader.specs.Sees.{sighting}
+use Rattle.value_reader.specs.Reads.{reading}
 use Rattle.value_reader.proofs.Contained.{each_of, OfFields, of_fields, of_variants, OfSome, of_chosen}
 use Rattle.value_reader.proofs.Exact.{exact}
 
@@ -55,56 +56,60 @@ Inside P None = Unit {0}
 Inside P (Some t) = AllByRecursion P (contents t)
 
 -- two walks agree on a type where they agree on what it contains, and on all that stands at less depth
-module _ {X : Type 0} (act : Doing X) (c : Context) (new old : ℕ → TypeRef → Items → X) (d : ℕ) (P : TypeRef → Type 0) (near : (ty : TypeRef) (p : Items) → P ty → new d ty p ≡ old d ty p) (far : (e : ℕ) (ty : TypeRef) (p : Items) → e < d → new e ty p ≡ old e ty p) where
-  e_fields : (fields : List Field) (p : Items) → OfFields P fields → map (go_field act c new d p) fields ≡ map (go_field act c old d p) fields
-  e_fields fields p h =
-      map_all (λ f. P f.ty) (go_field act c new d p) (go_field act c old d p)
-      (λ f q. ap (λ x. (f.name, x)) (near f.ty (field_part c p f) q)) fields h
+module _ {X : Type 0} (act : Doing X) (c : Context) (new old : ℕ → TypeRef → Items → X) (d : ℕ) (P : TypeRef → Type 0)
+    (near : (ty : TypeRef) (p : Items) → P ty → new d ty p ≡ old d ty p) (far : (e : ℕ) (ty : TypeRef) (p : Items) → e < d → new e ty p ≡ old e ty p)
+  where
+    e_fields : (fields : List Field) (p : Items) → OfFields P fields → map (go_field act c new d p) fields ≡ map (go_field act c old d p) fields
+    e_fields fields p h =
+        map_all (λ f. P f.ty) (go_field act c new d p) (go_field act c old d p)
+        (λ f q. ap (λ x. (f.name, x)) (near f.ty (field_part c p f) q)) fields h
 
-  e_content : (to : TypeRef) (at : ℕ) (o : Option ℕ) → Less d o → go_content act c new to at o ≡ go_content act c old to at o
-  e_content to at None h = refl
-  e_content to at (Some e) h = ap Some (far e to (target_part c to at) h)
+    e_content : (to : TypeRef) (at : ℕ) (o : Option ℕ) → Less d o → go_content act c new to at o ≡ go_content act c old to at o
+    e_content to at None h = refl
+    e_content to at (Some e) h = ap Some (far e to (target_part c to at) h)
 
-  e_far : (elem : TypeRef) (at len : ℕ) (o : Option ℕ) → Less d o → go_far act c new elem at len o ≡ go_far act c old elem at len o
-  e_far elem at len None h = refl
-  e_far elem at len (Some e) h =
-      ap (λ xs. Some (act.node (act.seq len xs)))
-      (map_same (λ i. new e elem (far_part c elem at i)) (λ i. old e elem (far_part c elem at i)) (λ i. far e elem (far_part c elem at i) h) (shown_of c len))
+    e_far : (elem : TypeRef) (at len : ℕ) (o : Option ℕ) → Less d o → go_far act c new elem at len o ≡ go_far act c old elem at len o
+    e_far elem at len None h = refl
+    e_far elem at len (Some e) h =
+        ap (λ xs. Some (act.node (act.seq len xs)))
+        (map_same (λ i. new e elem (far_part c elem at i)) (λ i. old e elem (far_part c elem at i)) (λ i. far e elem (far_part c elem at i) h) (shown_of c len))
 
-  e_thin : (kind : PtrKind) (to : TypeRef) (o : Option ℕ) → go_thin act c new d kind to o ≡ go_thin act c old d kind to o
-  e_thin kind to None = refl
-  e_thin kind to (Some at) = rw (e_content to at (below kind d) (less_below kind d)) refl
+    e_thin : (kind : PtrKind) (to : TypeRef) (o : Option ℕ) → go_thin act c new d kind to o ≡ go_thin act c old d kind to o
+    e_thin kind to None = refl
+    e_thin kind to (Some at) = rw (e_content to at (below kind d) (less_below kind d)) refl
 
-  e_slice : (kind : PtrKind) (e : Option TypeRef) (o q : Option ℕ) → go_slice act c new d kind e o q ≡ go_slice act c old d kind e o q
-  e_slice kind None o q = refl
-  e_slice kind (Some elem) None None = refl
-  e_slice kind (Some elem) None (Some len) = refl
-  e_slice kind (Some elem) (Some at) None = refl
-  e_slice kind (Some elem) (Some at) (Some len) = rw (e_far elem at len (below kind d) (less_below kind d)) refl
+    e_slice : (kind : PtrKind) (e : Option TypeRef) (o q : Option ℕ) → go_slice act c new d kind e o q ≡ go_slice act c old d kind e o q
+    e_slice kind None o q = refl
+    e_slice kind (Some elem) None None = refl
+    e_slice kind (Some elem) None (Some len) = refl
+    e_slice kind (Some elem) (Some at) None = refl
+    e_slice kind (Some elem) (Some at) (Some len) = rw (e_far elem at len (below kind d) (less_below kind d)) refl
 
-  e_variant : (p : Items) (o : Option Variant) → OfSome (λ w. OfFields P w.fields) o → go_variant act c new d p o ≡ go_variant act c old d p o
-  e_variant p None h = refl
-  e_variant p (Some w) h = ap (act.variant w.name) (e_fields w.fields p h)
+    e_variant : (p : Items) (o : Option Variant) → OfSome (λ w. OfFields P w.fields) o → go_variant act c new d p o ≡ go_variant act c old d p o
+    e_variant p None h = refl
+    e_variant p (Some w) h = ap (act.variant w.name) (e_fields w.fields p h)
 
-  e_enum : (variants : List Variant) (p : Items) (o : Option ℕ) → AllByRecursion (λ w. OfFields P w.fields) variants → go_enum act c new d variants p o ≡ go_enum act c old d variants p o
-  e_enum variants p None h = refl
-  e_enum variants p (Some n) h = e_variant p (chosen variants n) (of_chosen (λ w. OfFields P w.fields) variants n h)
+    e_enum : (variants : List Variant) (p : Items) (o : Option ℕ) → AllByRecursion (λ w. OfFields P w.fields) variants →
+        go_enum act c new d variants p o ≡ go_enum act c old d variants p o
+    e_enum variants p None h = refl
+    e_enum variants p (Some n) h = e_variant p (chosen variants n) (of_chosen (λ w. OfFields P w.fields) variants n h)
 
-  e_def : (def : Option TypeDef) (p : Items) → Inside P def → go_def act c new d def p ≡ go_def act c old d def p
-  unfolding go_def
-  e_def None p h = refl
-  e_def (Some (defs.Struct name bytes align params fields)) p h = ap act.fields (e_fields fields p (of_fields P fields h))
-  e_def (Some (defs.Array elem count)) p h =
-      ap (act.seq count)
-      (map_same (λ i. new d elem (element_part c elem p i)) (λ i. old d elem (element_part c elem p i)) (λ i. near elem (element_part c elem p i) h.0) (shown_of c count))
-  e_def (Some (defs.Thin kind to)) p h = e_thin kind to (number_at p 0 c.ptr)
-  e_def (Some (defs.Slice name kind ptr)) p h = e_slice kind (pointee c.types ptr) (number_at p 0 c.ptr) (number_at p c.ptr c.ptr)
-  e_def (Some (defs.Str name kind ptr)) p h = refl
-  e_def (Some (defs.Dyn name kind ptr vtable)) p h = refl
-  e_def (Some defs.FnPtr) p h = refl
-  e_def (Some (defs.CLike name tag cases)) p h = refl
-  e_def (Some (defs.Enum name bytes align params tag variants)) p h = e_enum variants p (tag_number c.ptr tag p) (of_variants P variants h)
-  e_def (Some (defs.Bytes name bytes align)) p h = refl
+    e_def : (def : Option TypeDef) (p : Items) → Inside P def → go_def act c new d def p ≡ go_def act c old d def p
+    unfolding go_def
+    e_def None p h = refl
+    e_def (Some (defs.Struct name bytes align params fields)) p h = ap act.fields (e_fields fields p (of_fields P fields h))
+    e_def (Some (defs.Array elem count)) p h =
+        ap (act.seq count)
+        (map_same (λ i. new d elem (element_part c elem p i)) (λ i. old d elem (element_part c elem p i)) (λ i. near elem (element_part c elem p i) h.0)
+        (shown_of c count))
+    e_def (Some (defs.Thin kind to)) p h = e_thin kind to (number_at p 0 c.ptr)
+    e_def (Some (defs.Slice name kind ptr)) p h = e_slice kind (pointee c.types ptr) (number_at p 0 c.ptr) (number_at p c.ptr c.ptr)
+    e_def (Some (defs.Str name kind ptr)) p h = refl
+    e_def (Some (defs.Dyn name kind ptr vtable)) p h = refl
+    e_def (Some defs.FnPtr) p h = refl
+    e_def (Some (defs.CLike name tag cases)) p h = refl
+    e_def (Some (defs.Enum name bytes align params tag variants)) p h = e_enum variants p (tag_number c.ptr tag p) (of_variants P variants h)
+    e_def (Some (defs.Bytes name bytes align)) p h = refl
 
 -- what a type contains begins shorter chains
 inside : (types : List TypeDef) (i n : ℕ) (o : Option TypeDef) → slice_get types i ≡ o → HasChains types (suc n) (User i) → Inside (HasChains types n) o
@@ -123,7 +128,8 @@ chains set shallow (User i) = λ rest c. shallow_chains set.types i (shallow (De
 
 module _ {X : Type 0} (act : Doing X) (c : Context) (short : (ty : TypeRef) → HasChains c.types 256 ty) where
   -- two numbers of levels that are enough for a type that begins no longer chain
-  same_levels : (k j n d : ℕ) (ty : TypeRef) (p : Items) → HasChains c.types n ty → n + 1 + 257 * d ≤ k → n + 1 + 257 * d ≤ j → walk act c k d ty p ≡ walk act c j d ty p
+  same_levels : (k j n d : ℕ) (ty : TypeRef) (p : Items) → HasChains c.types n ty → n + 1 + 257 * d ≤ k → n + 1 + 257 * d ≤ j →
+      walk act c k d ty p ≡ walk act c j d ty p
   unfolding walk
   same_levels zero j n d ty p s h g = absurd (omega (arith, h))
   same_levels (suc k) zero n d ty p s h g = absurd (omega (arith, g))
@@ -143,8 +149,9 @@ module _ {X : Type 0} (act : Doing X) (c : Context) (short : (ty : TypeRef) → 
   suffice d k ty p h = same_levels k (levels d) 256 d ty p (short ty) (omega (arith, h)) (omega arith)
 
 -- the same values have their images
-pub images_suffice : (c : Context) → ((ty : TypeRef) → HasChains c.types 256 ty) → (d k : ℕ) (ty : TypeRef) (p : Items) (x : Val) → levels d ≤ k → (IsImageWithin c k d ty p x ↔ IsImageWithin c (levels d) d ty p x)
-images_suffice c short d k ty p x h = let same = suffice sighting c short d k ty p h in (
-  λ i. (exact c (levels d)).is_seen d ty p x (sym same ∙ (exact c k).seen_is d ty p x i),
-  λ i. (exact c k).is_seen d ty p x (same ∙ (exact c (levels d)).seen_is d ty p x i),
+pub images_suffice : (c : Context) → ((ty : TypeRef) → HasChains c.types 256 ty) → (d k : ℕ) (ty : TypeRef) (p : Items) (x : Val) → levels d ≤ k →
+    (IsImageWithin c k d ty p x ↔ IsImageWithin c (levels d) d ty p x)
+images_suffice c short d k ty p x h = let same = suffice reading c short d k ty p h in (
+  λ i. (exact c (levels d)).is_read d ty p x (sym same ∙ (exact c k).read_is d ty p x i),
+  λ i. (exact c k).is_read d ty p x (same ∙ (exact c (levels d)).read_is d ty p x i),
 )

@@ -1,5 +1,6 @@
 -- Chunks that follow one another, and what they give together.
-use Rattle.std.proofs.Common.{◌≡◌, ◌∙◌, sym, ap, refl, ℕ, zero, suc, ◌+◌, ◌-◌, ◌<◌, ◌≤◌, min, cond, List, [], ◌∷◌, ◌++◌, length, map, take, drop, replicate, get_or, Option, Some, None, arith, ⊎_elim, append_assoc, add-one, subst}
+use Rattle.std.proofs.Common.{◌≡◌, ◌∙◌, sym, ap, refl, ℕ, zero, suc, ◌+◌, ◌-◌, ◌<◌, ◌≤◌, min, cond, List, [], ◌∷◌, ◌++◌, length, map, take, drop}
+use Rattle.std.proofs.Common.{replicate, get_or, Option, Some, None, arith, ⊎_elim, append_assoc, add-one, subst}
 use Rattle.std.specs.List.{range_with_len, flat_map}
 use Rattle.std.proofs.lemmas.Bool.{cases_lt}
 use Rattle.std.proofs.lemmas.List.{get_or_append_left, get_or-append_right}
@@ -67,7 +68,8 @@ pad_next n zero (x ∷ items) = refl
 pad_next n (suc i) [] = ap (λ k. None ∷ pad n (drop {A = Option ℕ} k [])) (sym (add-one (suc i)))
 pad_next n (suc i) (x ∷ items) =
     let next : i + 1 ≡ suc i = add-one i in
-    pad_next n i items ∙ ap (λ k. get_or items i None ∷ pad n (drop k items)) next ∙ ap (λ k. get_or items i None ∷ pad n (drop k (x ∷ items))) (sym (add-one (suc i)))
+    pad_next n i items ∙ ap (λ k. get_or items i None ∷ pad n (drop k items)) next
+    ∙ ap (λ k. get_or items i None ∷ pad n (drop k (x ∷ items))) (sym (add-one (suc i)))
 
 pub length-pad : (n : ℕ) (items : Items) → length (pad n items) ≡ n
 length-pad zero items = refl
@@ -75,7 +77,8 @@ length-pad (suc n) [] = ap suc (length-pad n [])
 length-pad (suc n) (x ∷ items) = ap suc (length-pad n items)
 
 -- the item of a place is the one that the chunks give there together
-place_item : (mem : List Run) (from to k i : ℕ) (cs : List Chunk) → Adjoin from to cs → from ≤ i → (chunk_place mem cs k i).item ≡ get_or (joined mem cs) (i - from) None
+place_item : (mem : List Run) (from to k i : ℕ) (cs : List Chunk) → Adjoin from to cs → from ≤ i →
+    (chunk_place mem cs k i).item ≡ get_or (joined mem cs) (i - from) None
 place_item mem from to k i [] h l = refl
 place_item mem from to k i (c ∷ cs) h l =
     let here : Place = record { item = item_of mem c.src (i - c.off); giver = Some (k, is_number c.src) } in
@@ -94,10 +97,12 @@ place_item mem from to k i (c ∷ cs) h l =
     ∙ sym (get_or-append_right (chunk_items mem c) (joined mem cs) c.len (i - from) None len (omega (arith, h.0))))
     (cases_lt i (c.off + c.len))
 
-places_from : (mem : List Run) (to i n : ℕ) (cs : List Chunk) → Adjoin 0 to cs → part_of (map (chunk_place mem cs 0) (range_with_len i n)) ≡ pad n (drop i (joined mem cs))
+places_from : (mem : List Run) (to i n : ℕ) (cs : List Chunk) → Adjoin 0 to cs →
+    part_of (map (chunk_place mem cs 0) (range_with_len i n)) ≡ pad n (drop i (joined mem cs))
 places_from mem to i zero cs h = refl
 places_from mem to i (suc n) cs h =
-    let first : (chunk_place mem cs 0 i).item ≡ get_or (joined mem cs) i None = place_item mem 0 to 0 i cs h (omega arith) ∙ ap (λ j. get_or (joined mem cs) j None) (let z : i - 0 ≡ i = omega arith in z) in
+    let first : (chunk_place mem cs 0 i).item ≡ get_or (joined mem cs) i None =
+    place_item mem 0 to 0 i cs h (omega arith) ∙ ap (λ j. get_or (joined mem cs) j None) (let z : i - 0 ≡ i = omega arith in z) in
     ap (λ x. x ∷ part_of (map (chunk_place mem cs 0) (range_with_len (i + 1) n))) first
     ∙ ap (λ items. get_or (joined mem cs) i None ∷ items) (places_from mem to (i + 1) n cs h)
     ∙ sym (pad_next n i (joined mem cs))
@@ -113,7 +118,8 @@ take_piece (suc room) n [] rest e = let none : n ≡ 0 = omega arith in rw none 
 take_piece (suc room) zero (x ∷ piece) rest e = absurd (omega arith)
 take_piece (suc room) (suc n) (x ∷ piece) rest e = ap (λ items. x ∷ items) (take_piece room n piece rest (omega arith))
 
-take_behind : (size : ℕ) (items others more : Items) → take (size - length items) others ≡ take (size - length items) more → take size (items ++ others) ≡ take size (items ++ more)
+take_behind : (size : ℕ) (items others more : Items) → take (size - length items) others ≡ take (size - length items) more →
+    take size (items ++ others) ≡ take size (items ++ more)
 take_behind zero [] others more e = refl
 take_behind (suc size) [] others more e = let z : suc size - 0 ≡ suc size = omega arith in subst (λ k. take k others ≡ take k more) z e
 take_behind zero (x ∷ items) others more e = refl
@@ -121,7 +127,8 @@ take_behind (suc size) (x ∷ items) others more e =
     let z : suc size - suc (length items) ≡ size - length items = omega arith in
     ap (λ rest. x ∷ rest) (take_behind size items others more (subst (λ k. take k others ≡ take k more) z e))
 
-pub piece_step : (size n : ℕ) (items piece rest : Items) → n ≡ min (length piece) (size - length items) → take size (items ++ (piece ++ rest)) ≡ take size ((items ++ take n piece) ++ rest)
+pub piece_step : (size n : ℕ) (items piece rest : Items) → n ≡ min (length piece) (size - length items) →
+    take size (items ++ (piece ++ rest)) ≡ take size ((items ++ take n piece) ++ rest)
 piece_step size n items piece rest e =
     take_behind size items (piece ++ rest) (take n piece ++ rest) (take_piece (size - length items) n piece rest e)
     ∙ ap (take size) (sym (append_assoc items (take n piece) rest))

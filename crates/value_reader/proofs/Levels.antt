@@ -1,4 +1,4 @@
--- One level of what is seen and counted.
+-- One level of what is read and counted.
 use Rattle.std.proofs.Common.{◌≡◌, ℕ, zero, suc, ◌-◌, ◌<◌, ◌≤◌, Bool, true, false, ◌&&◌, Option, Some, None, refl, arith}
 use Rattle.names.specs.declared.name.PtrKind.{PtrKind}
 use Rattle.layout_values.specs.Pointers.{may_point}
@@ -8,22 +8,22 @@ use Rattle.layout_values.specs.Contexts.{Items, Context}
 use Rattle.layout_values.specs.Walk.{go_layer, go_dyn, walk, valued, scalar_at, allowed}
 use Rattle.layout_values.specs.Reached.{counting}
 use Rattle.rust_value.specs.declared.value.Val.{Val}
-use Rattle.value_reader.specs.declared.seen.Seen.TheVariants.{Bad}
-use Rattle.value_reader.specs.Sees.{sighting, seen, nodes}
+use Rattle.value_reader.specs.declared.checked.Checked.TheVariants.{Invalid}
+use Rattle.value_reader.specs.Reads.{reading, read, nodes}
 
 module _ (c : Context) (d : ℕ) (ty : TypeRef) (p : Items) where
-  pub seen_none : seen c 0 d ty p ≡ Bad
+  pub read_none : read c 0 d ty p ≡ Invalid
   unfolding walk
-  seen_none = refl
+  read_none = refl
 
   pub nodes_none : nodes c 0 d ty p ≡ 1
   unfolding walk
   nodes_none = refl
 
-  pub seen_more : (k : ℕ) → 0 < k → seen c k d ty p ≡ go_layer sighting c (seen c (k - 1)) d ty p
+  pub read_more : (k : ℕ) → 0 < k → read c k d ty p ≡ go_layer reading c (read c (k - 1)) d ty p
   unfolding walk
-  seen_more zero h = absurd (omega arith)
-  seen_more (suc k) h = let e : suc k - 1 ≡ k = omega arith in rw e refl
+  read_more zero h = absurd (omega arith)
+  read_more (suc k) h = let e : suc k - 1 ≡ k = omega arith in rw e refl
 
   pub nodes_more : (k : ℕ) → 0 < k → nodes c k d ty p ≡ go_layer counting c (nodes c (k - 1)) d ty p
   unfolding walk

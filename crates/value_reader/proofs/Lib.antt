@@ -2,7 +2,7 @@ pub mod Places
 pub mod Levels
 pub mod Steps
 pub mod Exact
-pub mod Gone
+pub mod Missing
 pub mod Whole
 pub mod Texts
 pub mod Joined
@@ -12,3 +12,4 @@ pub mod Contained
 pub mod Enough
 pub mod NodeCounts
 pub mod Filled
+pub mod Scalars

@@ -9,7 +9,9 @@ use Rattle.rust_value.specs.declared.value.Part.{Part, fold-roll-Part}
 use Rattle.rust_value.specs.declared.value.Val.{Val, fold-roll-Val}
 use Rattle.rust_value.specs.declared.value.Val.TheOpen.{Val-F}
 use Rattle.rust_value.specs.declared.value.Val.TheVariants as vals
-use Rattle.rust_value.specs.declared.value.Val.TheVariants.{rolls-Fields, rolls-Variant, rolls-Seq, rolls-Pointer, rolls-Slice, rolls-Str, rolls-Dyn, rolls-Function, rolls-Bytes, rolls-Unit, rolls-Bool, rolls-Char, rolls-Unsigned, rolls-Signed, rolls-Float32, rolls-Float64}
+use Rattle.rust_value.specs.declared.value.Val.TheVariants.{rolls-Fields, rolls-Variant, rolls-Seq, rolls-Pointer, rolls-Slice, rolls-Str, rolls-Dyn}
+use Rattle.rust_value.specs.declared.value.Val.TheVariants.{rolls-Function, rolls-Bytes, rolls-Unit, rolls-Bool, rolls-Char, rolls-Unsigned}
+use Rattle.rust_value.specs.declared.value.Val.TheVariants.{rolls-Signed, rolls-Float32, rolls-Float64}
 use Rattle.rust_value.specs.Nodes.{nodes_of, part_nodes, val_step, part_step, content_nodes, shown_nodes}
 use Rattle.layout_set.specs.declared.primitive.Primitive.{Primitive}
 use Rattle.layout_set.specs.declared.primitive.Primitive.TheVariants as prim
@@ -31,9 +33,11 @@ pub nodes-Pointer : (kind : PtrKind) (at : ℕ) (content : Option Val) → nodes
 nodes-Pointer kind at None = ap nodes_of (sym (rolls-Pointer kind at None)) ∙ fold-roll-Val ℕ ℕ val_step part_step (Val-F.Pointer kind at None)
 nodes-Pointer kind at (Some x) = ap nodes_of (sym (rolls-Pointer kind at (Some x))) ∙ fold-roll-Val ℕ ℕ val_step part_step (Val-F.Pointer kind at (Some x))
 
-pub nodes-Slice : (kind : PtrKind) (at len : ℕ) (content : Option Val) → nodes_of (vals.Slice kind at len content) ≡ 1 + content_nodes (option_map nodes_of content)
+pub nodes-Slice : (kind : PtrKind) (at len : ℕ) (content : Option Val) →
+    nodes_of (vals.Slice kind at len content) ≡ 1 + content_nodes (option_map nodes_of content)
 nodes-Slice kind at len None = ap nodes_of (sym (rolls-Slice kind at len None)) ∙ fold-roll-Val ℕ ℕ val_step part_step (Val-F.Slice kind at len None)
-nodes-Slice kind at len (Some x) = ap nodes_of (sym (rolls-Slice kind at len (Some x))) ∙ fold-roll-Val ℕ ℕ val_step part_step (Val-F.Slice kind at len (Some x))
+nodes-Slice kind at len (Some x) = ap nodes_of (sym (rolls-Slice kind at len (Some x)))
+    ∙ fold-roll-Val ℕ ℕ val_step part_step (Val-F.Slice kind at len (Some x))
 
 pub nodes-Str : (kind : PtrKind) (at len : ℕ) (content : Option (List ℕ)) → nodes_of (vals.Str kind at len content) ≡ 1 + shown_nodes content
 nodes-Str kind at len content = ap nodes_of (sym (rolls-Str kind at len content)) ∙ fold-roll-Val ℕ ℕ val_step part_step (Val-F.Str kind at len content)

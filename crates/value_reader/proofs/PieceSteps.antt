@@ -1,5 +1,6 @@
 -- The chunks of a location's pieces.
-use Rattle.std.proofs.Common.{◌≡◌, ◌∙◌, sym, ap, refl, ℕ, ◌+◌, ◌-◌, ◌≤◌, min, List, [], ◌∷◌, ◌++◌, length, take, replicate, Option, None, arith, length-append, append-nil}
+use Rattle.std.proofs.Common.{◌≡◌, ◌∙◌, sym, ap, refl, ℕ, ◌+◌, ◌-◌, ◌≤◌, min, List, [], ◌∷◌, ◌++◌, length, take, replicate, Option, None, arith}
+use Rattle.std.proofs.Common.{length-append, append-nil}
 use Rattle.std.proofs.lemmas.Grind.{flat_map-append}
 use Rattle.std.proofs.lemmas.List.FromFn.{length-map-range_with_len, take-map-range_with_len}
 use Rattle.snapshot_file.specs.Memory.{Run}
@@ -39,7 +40,8 @@ module _ (snap : Snapshot) (p : Piece) (c : Chunk) (from : (n : ℕ) → items_f
       ∙ ap (λ items. take size (items ++ rest)) (sym (joined_more snap.mem cs c))
 
 -- all pieces
-pub all_items : (mem : List Run) (to size : ℕ) (cs : List Chunk) (items : Items) → Adjoin 0 to cs → take size items ≡ take size (joined mem cs ++ []) → part_of (chunk_places mem cs 0 size) ≡ take size (items ++ replicate size None)
+pub all_items : (mem : List Run) (to size : ℕ) (cs : List Chunk) (items : Items) → Adjoin 0 to cs →
+    take size items ≡ take size (joined mem cs ++ []) → part_of (chunk_places mem cs 0 size) ≡ take size (items ++ replicate size None)
 all_items mem to size cs items h e =
     joined_places mem to size cs h
     ∙ pad_same size (joined mem cs) items (sym (e ∙ ap (take size) (append-nil (joined mem cs))))

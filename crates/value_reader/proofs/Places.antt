@@ -1,5 +1,6 @@
 -- Parts of parts.
-use Rattle.std.proofs.Common.{◌++◌, append_assoc, get_or, add-one, ◌≡◌, ◌∙◌, sym, ap, refl, ℕ, zero, suc, ◌+◌, ◌-◌, ◌<◌, ◌≤◌, ◌^◌, ◌*◌, min, List, [], ◌∷◌, length, take, drop, Option, Some, None, arith, ◌⊎◌, inl, inr, length-drop, add-zero, false, nat_lt, lit<}
+use Rattle.std.proofs.Common.{◌++◌, append_assoc, get_or, add-one, ◌≡◌, ◌∙◌, sym, ap, refl, ℕ, zero, suc, ◌+◌, ◌-◌, ◌<◌, ◌≤◌, ◌^◌, ◌*◌, min, List, []}
+use Rattle.std.proofs.Common.{◌∷◌, length, take, drop, Option, Some, None, arith, ◌⊎◌, inl, inr, length-drop, add-zero, false, nat_lt, lit<}
 use Rattle.std.proofs.Math.Nat.{pow-le-pow_right, pow-succ'}
 use Rattle.std.specs.Option.{option_map}
 use Rattle.std.proofs.Math.Seq.{drop-cons}
@@ -33,7 +34,8 @@ sub_clamped xs off n =
 pub sub-part : (ps : List Place) (off n : ℕ) → part_of (take n (drop off ps)) ≡ sub (part_of ps) off n
 sub-part ps off n = sym (take-map (λ (p : Place). p.item) n (drop off ps)) ∙ ap (take n) (sym (drop-map (λ (p : Place). p.item) off ps))
 
-pub part_clamped : (ps : List Place) (off n : ℕ) → part_of (take (min n (length ps - min off (length ps))) (drop (min off (length ps)) ps)) ≡ sub (part_of ps) off n
+pub part_clamped : (ps : List Place) (off n : ℕ) →
+    part_of (take (min n (length ps - min off (length ps))) (drop (min off (length ps)) ps)) ≡ sub (part_of ps) off n
 part_clamped ps off n = ap part_of (sub_clamped ps off n) ∙ sub-part ps off n
 
 pub length-part : (ps : List Place) → length (part_of ps) ≡ length ps
@@ -52,7 +54,8 @@ take-items memory a (suc n) (suc len) h = ap (λ l. item_at memory a ∷ l) (tak
 pub sub-items : (memory : List Run) (a off n len : ℕ) → off + n ≤ len → sub (items_at memory a len) off n ≡ items_at memory (a + off) n
 sub-items memory a zero n len h = take-items memory a n len (omega arith) ∙ ap (λ b. items_at memory b n) (sym (add-zero a))
 sub-items memory a (suc off) n zero h = absurd (omega arith)
-sub-items memory a (suc off) n (suc len) h = sub-items memory (a + 1) off n len (omega arith) ∙ ap (λ b. items_at memory b n) (let e : a + 1 + off ≡ a + suc off = omega arith in e)
+sub-items memory a (suc off) n (suc len) h = sub-items memory (a + 1) off n len (omega arith)
+    ∙ ap (λ b. items_at memory b n) (let e : a + 1 + off ≡ a + suc off = omega arith in e)
 
 item_past : (memory : List Run) (a : ℕ) → 2 ^ 64 ≤ a → item_at memory a ≡ None
 item_past memory a h = let e : nat_lt a (2 ^ 64) ≡ false = grind arith in rw e refl
@@ -77,18 +80,22 @@ number_fits low high width l w few h =
     omega (arith, l, h, bound)
 
 -- one more byte of a part
-byte_head : (item : Option ℕ) (rest : Items) (b : ℕ) (found : List ℕ) (all : Option (List ℕ)) → Some b ≡ number (item ∷ []) → option_map (λ bytes. found ++ bytes) (bytes_of (item ∷ rest)) ≡ all → option_map (λ bytes. (found ++ b ∷ []) ++ bytes) (bytes_of rest) ≡ all
+byte_head : (item : Option ℕ) (rest : Items) (b : ℕ) (found : List ℕ) (all : Option (List ℕ)) → Some b ≡ number (item ∷ []) →
+    option_map (λ bytes. found ++ bytes) (bytes_of (item ∷ rest)) ≡ all → option_map (λ bytes. (found ++ b ∷ []) ++ bytes) (bytes_of rest) ≡ all
 byte_head None rest b found all e h = absurd (cc)
 byte_head (Some x) rest b found all e h = tail (bytes_of rest) h
   where
     same : b ≡ x
     same = let f : b ≡ x + 256 * 0 = cc in omega (arith, f)
 
-    tail : (o : Option (List ℕ)) → option_map (λ bytes. found ++ bytes) (option_map (λ bytes. x ∷ bytes) o) ≡ all → option_map (λ bytes. (found ++ b ∷ []) ++ bytes) o ≡ all
+    tail : (o : Option (List ℕ)) → option_map (λ bytes. found ++ bytes) (option_map (λ bytes. x ∷ bytes) o) ≡ all →
+        option_map (λ bytes. (found ++ b ∷ []) ++ bytes) o ≡ all
     tail None g = g
     tail (Some bs) g = ap Some (ap (λ y. (found ++ y ∷ []) ++ bs) same ∙ append_assoc found (x ∷ []) bs) ∙ g
 
-pub byte_step : (p : Items) (i b : ℕ) (found : List ℕ) (all : Option (List ℕ)) → i < length p → Some b ≡ number (sub p i 1) → option_map (λ bytes. found ++ bytes) (bytes_of (drop i p)) ≡ all → option_map (λ bytes. (found ++ b ∷ []) ++ bytes) (bytes_of (drop (i + 1) p)) ≡ all
+pub byte_step : (p : Items) (i b : ℕ) (found : List ℕ) (all : Option (List ℕ)) → i < length p → Some b ≡ number (sub p i 1) →
+    option_map (λ bytes. found ++ bytes) (bytes_of (drop i p)) ≡ all →
+    option_map (λ bytes. (found ++ b ∷ []) ++ bytes) (bytes_of (drop (i + 1) p)) ≡ all
 byte_step p i b found all l e h =
     let x = get_or p i None in
     let step : drop i p ≡ x ∷ drop (i + 1) p = drop-cons p i None l ∙ ap (λ n. x ∷ drop n p) (sym (add-one i)) in
@@ -99,7 +106,8 @@ byte_none None rest e = refl
 byte_none (Some x) rest e = absurd (cc)
 
 -- a part with a missing item has no bytes
-pub byte_missing : (p : Items) (i : ℕ) (found : List ℕ) (all : Option (List ℕ)) → i < length p → None ≡ number (sub p i 1) → option_map (λ bytes. found ++ bytes) (bytes_of (drop i p)) ≡ all → None ≡ all
+pub byte_missing : (p : Items) (i : ℕ) (found : List ℕ) (all : Option (List ℕ)) → i < length p → None ≡ number (sub p i 1) →
+    option_map (λ bytes. found ++ bytes) (bytes_of (drop i p)) ≡ all → None ≡ all
 byte_missing p i found all l e h =
     let x = get_or p i None in
     let step : drop i p ≡ x ∷ drop (i + 1) p = drop-cons p i None l ∙ ap (λ n. x ∷ drop n p) (sym (add-one i)) in

@@ -9,7 +9,8 @@ use Rattle.rust_value.specs.declared.value.Val.TheVariants as vals
 use Rattle.rust_value.specs.declared.value.Part.{Part}
 use Rattle.rust_value.specs.Utf8.{has_texts, part_has_texts, all_true, true_of, is_text}
 use Rattle.rust_value.proofs.Parts.{texts-value}
-use Rattle.rust_value.proofs.TextLevels.{texts-Fields, texts-Variant, texts-Seq, texts-Pointer, texts-Slice, texts-Str, texts-Dyn, texts-Function, texts-Bytes, texts-Unit, texts-Bool, texts-Char, texts-Unsigned, texts-Signed, texts-Float32, texts-Float64}
+use Rattle.rust_value.proofs.TextLevels.{texts-Fields, texts-Variant, texts-Seq, texts-Pointer, texts-Slice, texts-Str, texts-Dyn, texts-Function}
+use Rattle.rust_value.proofs.TextLevels.{texts-Bytes, texts-Unit, texts-Bool, texts-Char, texts-Unsigned, texts-Signed, texts-Float32, texts-Float64}
 use Rattle.layout_set.specs.declared.primitive.Primitive.{Primitive}
 use Rattle.layout_set.specs.declared.primitive.Primitive.TheVariants as prim
 use Rattle.layout_set.specs.declared.set.TypeRef.{TypeRef}
@@ -51,7 +52,8 @@ prim_texts ptr prim.F64 n x e = some_texts _ x e (texts-Float64 n)
 both_true : (a b : Bool) → a ≡ true → b ≡ true → (a && b) ≡ true
 both_true a b h g = rw h g
 
-paired_texts : {A : Type 0} (R : A → Val → Type 0) → ((a : A) (x : Val) → R a x → has_texts x ≡ true) → (ys : List A) (xs : List Val) → Paired R ys xs → all_true (map has_texts xs) ≡ true
+paired_texts : {A : Type 0} (R : A → Val → Type 0) → ((a : A) (x : Val) → R a x → has_texts x ≡ true) → (ys : List A) (xs : List Val) →
+    Paired R ys xs → all_true (map has_texts xs) ≡ true
 paired_texts R h [] [] p = refl
 paired_texts R h [] (x ∷ xs) p = absurd p
 paired_texts R h (a ∷ ys) [] p = absurd p
@@ -62,15 +64,18 @@ module _ (c : Context) (Is : ℕ → TypeRef → Items → Val → Type 0) (text
   field_texts d [] p [] h = refl
   field_texts d [] p (x ∷ xs) h = absurd h
   field_texts d (f ∷ fs) p [] h = absurd h
-  field_texts d (f ∷ fs) p (x ∷ xs) h = both_true (part_has_texts x) (all_true (map part_has_texts xs)) (texts-value x ∙ texts d f.ty (field_part c p f) x.val h.0.1) (field_texts d fs p xs h.1)
+  field_texts d (f ∷ fs) p (x ∷ xs) h = both_true (part_has_texts x) (all_true (map part_has_texts xs))
+      (texts-value x ∙ texts d f.ty (field_part c p f) x.val h.0.1) (field_texts d fs p xs h.1)
 
   content_texts : (to : TypeRef) (at : ℕ) (o : Option ℕ) (content : Option Val) → IsContent c Is to at o content → true_of (option_map has_texts content) ≡ true
   content_texts to at None content h = rw h refl
   content_texts to at (Some e) content h = rw h.1 (texts e to _ h.0 h.2)
 
-  far_texts : (elem : TypeRef) (at len : ℕ) (o : Option ℕ) (content : Option Val) → IsFar c Is elem at len o content → true_of (option_map has_texts content) ≡ true
+  far_texts : (elem : TypeRef) (at len : ℕ) (o : Option ℕ) (content : Option Val) → IsFar c Is elem at len o content →
+      true_of (option_map has_texts content) ≡ true
   far_texts elem at len None content h = rw h refl
-  far_texts elem at len (Some e) content h = rw h.1 (texts-Seq len h.0 ∙ paired_texts (λ i x. Is e elem (far_part c elem at i) x) (λ i x g. texts e elem (far_part c elem at i) x g) (shown_of c len) h.0 h.2)
+  far_texts elem at len (Some e) content h = rw h.1
+      (texts-Seq len h.0 ∙ paired_texts (λ i x. Is e elem (far_part c elem at i) x) (λ i x g. texts e elem (far_part c elem at i) x g) (shown_of c len) h.0 h.2)
 
   text_texts : (at len : ℕ) (o : Option ℕ) (content : Option (List ℕ)) → IsText c Is at len o content → is_text content ≡ true
   text_texts at len None content h = rw h refl
@@ -83,7 +88,8 @@ module _ (c : Context) (Is : ℕ → TypeRef → Items → Val → Type 0) (text
   def_texts : (d : ℕ) (def : Option TypeDef) (p : Items) (x : Val) → IsOf c Is d def p x → has_texts x ≡ true
   def_texts d None p x h = absurd h
   def_texts d (Some (defs.Struct name bytes align params fields)) p x h = ap has_texts h.1 ∙ texts-Fields h.0 ∙ field_texts d fields p h.0 h.2
-  def_texts d (Some (defs.Array elem count)) p x h = ap has_texts h.1 ∙ texts-Seq count h.0 ∙ paired_texts (λ i y. Is d elem (element_part c elem p i) y) (λ i y g. texts d elem (element_part c elem p i) y g) (shown_of c count) h.0 h.2
+  def_texts d (Some (defs.Array elem count)) p x h = ap has_texts h.1 ∙ texts-Seq count h.0
+      ∙ paired_texts (λ i y. Is d elem (element_part c elem p i) y) (λ i y g. texts d elem (element_part c elem p i) y g) (shown_of c count) h.0 h.2
   def_texts d (Some (defs.Thin kind to)) p x h = ap has_texts h.4 ∙ texts-Pointer kind h.0 h.3 ∙ content_texts to h.0 (below kind d) h.3 h.5
   def_texts d (Some (defs.Slice name kind ptr)) p x h = slice_texts d kind (pointee c.types ptr) p x h
   def_texts d (Some (defs.Str name kind ptr)) p x h = ap has_texts h.6 ∙ texts-Str kind h.0 h.2 h.5 ∙ text_texts h.0 h.2 (below kind d) h.5 h.7

@@ -1,9 +1,9 @@
--- What is seen as gone.
+-- Whether what is read lacks an item that is needed.
 use Rattle.std.specs.Prelude.{Bool, true, false}
-use Rattle.value_reader.specs.declared.seen.Seen.{Seen}
-use Rattle.value_reader.specs.declared.seen.Seen.TheVariants.{Good, Bad, Gone}
+use Rattle.value_reader.specs.declared.checked.Checked.{Checked}
+use Rattle.value_reader.specs.declared.checked.Checked.TheVariants.{Valid, Invalid, Missing}
 
-abbrev pub is_gone : {A : Type 0} → Seen A → Bool
-is_gone (Good a) = false
-is_gone Bad = false
-is_gone Gone = true
+abbrev pub misses : {A : Type 0} → Checked A → Bool
+misses (Valid a) = false
+misses Invalid = false
+misses Missing = true

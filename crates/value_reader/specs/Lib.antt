@@ -1,4 +1,6 @@
-pub mod Seeing
-pub mod Sees
-pub mod Lacking
 pub mod ImageLaws
+pub mod Lacking
+pub mod OutcomesIn
+pub mod Checking
+pub mod Reads
+pub mod Walking

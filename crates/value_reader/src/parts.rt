@@ -1,13 +1,15 @@
 //! Parts of images, and what stands in them, as far as it is there.
 ghost use Rattle.std.specs.Prelude.{◌≡◌, ◌+◌, ◌*◌, ◌^◌, ◌≤◌, ◌<◌, IfSome, IfOk};
+ghost use Rattle.rust_value.specs.Held.{led};
 ghost use Rattle.snapshot_file.specs.Memory.{sub, bytes_of};
 ghost use Rattle.image_view.specs.Places.{part_of};
 ghost use Rattle.layout_values.specs.Contexts.{number_at, tag_number};
 
+use bumpalo::Bump;
+use bumpalo::collections::into_bump_slice;
 use image_view::Image;
 use layout_set::{Tag, prim_size};
-use rv_io::{Memory, Text};
-use std::alloc::Global;
+use rv_io::Memory;
 
 /// So many items from an offset on, as far as they are there.
 #[tactic(auto, using(crate::proofs::Places::part_clamped))]
@@ -48,19 +50,20 @@ pub(crate) fn tag_number(tag: &Option<Tag>, image: &Image<'_>) -> Option<u128>
     }
 }
 
-/// All bytes; None exactly where one is missing.
-pub(crate) fn bytes_in(alloc: Global, image: &Image<'_>) -> Result<Option<Text>, Memory>
-    ensures { IfOk result (λ bytes. bytes ≡ bytes_of (part_of image.now)) }
+/// A copy of all bytes in the arena; None exactly where one is missing.
+pub(crate) fn bytes_in<'b>(bump: &'b Bump, image: &Image<'_>) -> Result<Option<&'b [u8]>, Memory>
+    ensures { IfOk result (λ bytes. led bytes ≡ bytes_of (part_of image.now)) }
 {
     if let Some(bytes) = image.whole() {
-        return Ok(Some(Text::from_bytes(alloc, bytes)?));
+        let copy = bump.try_alloc_slice_copy(bytes)?;
+        return Ok(Some(copy));
     }
-    let mut found = Vec::new(alloc);
+    let mut found = Vec::with_capacity(bump, image.len() as usize)?;
     for i in 0..image.len() {
         match image.number(i, 1) {
             None => return Ok(None),
             Some(byte) => found.push(byte as u8)?,
         }
     }
-    Ok(Some(Text::from_vec(found)))
+    Ok(Some(into_bump_slice(found)))
 }

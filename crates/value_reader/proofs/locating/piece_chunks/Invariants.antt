@@ -10,5 +10,6 @@ invariant-loop-piece l = record {
   within : l.off ≤ l.size;
   adjoin : Adjoin 0 l.off l.chunks;
   long : length (joined l.snap.mem l.chunks) ≡ l.off;
-  items : take l.size (flat_map (piece_items 8 l.snap) l.pieces) ≡ take l.size (joined l.snap.mem l.chunks ++ flat_map (piece_items 8 l.snap) (drop l.piece-index l.pieces));
+  items : take l.size (flat_map (piece_items 8 l.snap) l.pieces) ≡ take l.size
+      (joined l.snap.mem l.chunks ++ flat_map (piece_items 8 l.snap) (drop l.piece-index l.pieces));
 }

@@ -8,4 +8,5 @@ pub returns-in-Some : goal.returns-in-Some
 returns-in-Some c =
     let fits : SFits w32 c.args.n = search rules in
     let at = rw (to_z-of_z w32 c.args.n fits) at c.displaced.ensures in
-    ap Some at ∙ past_register c.args.snap.now c.args.reg c.args.n c.in-Some.bytes.now c.low_number.result (sym c.bytes.ensures ∙ ap option_copied c.in-Some.is) c.low_number.ensures
+    ap Some at ∙ past_register c.args.snap.now c.args.reg c.args.n c.in-Some.bytes.now c.low_number.result
+    (sym c.bytes.ensures ∙ ap option_copied c.in-Some.is) c.low_number.ensures

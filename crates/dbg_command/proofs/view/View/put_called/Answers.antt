@@ -33,5 +33,6 @@ pub returns-clause-put : goal.returns-clause-put
 returns-clause-put c =
     let a = c.args in
     let keep = is_called a.self.now.snap.now.pc in
-    ends_kept (IsFuncText (context_of a.self.now.set.now a.self.now.snap.now.mem a.self.now.width) a.self.now.snap.now a.self.now.depth) keep a.funcs.now (filter keep a.funcs.now) c.loop-func.func-index a.out.now c.loop-func.out
+    ends_kept (IsFuncText (context_of a.self.now.set.now a.self.now.snap.now.mem a.self.now.width) a.self.now.snap.now a.self.now.depth) keep
+    a.funcs.now (filter keep a.funcs.now) c.loop-func.func-index a.out.now c.loop-func.out
     c.loop-func-test.false c.loop-func.invariant.1

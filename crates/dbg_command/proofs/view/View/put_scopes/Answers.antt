@@ -33,5 +33,6 @@ pub returns-clause-put : goal.returns-clause-put
 returns-clause-put c =
     let a = c.args in
     let keep = is_entered a.self.now.snap.now.pc in
-    ends_kept (AreVarLines (context_of a.self.now.set.now a.self.now.snap.now.mem a.self.now.width) a.self.now.snap.now a.self.now.depth) keep a.scopes.now (filter keep a.scopes.now) c.loop-scope.scope-index a.out.now c.loop-scope.out
+    ends_kept (AreVarLines (context_of a.self.now.set.now a.self.now.snap.now.mem a.self.now.width) a.self.now.snap.now a.self.now.depth) keep
+    a.scopes.now (filter keep a.scopes.now) c.loop-scope.scope-index a.out.now c.loop-scope.out
     c.loop-scope-test.false c.loop-scope.invariant.1
