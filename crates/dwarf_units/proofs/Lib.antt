@@ -8,3 +8,5 @@ pub mod KeptTables
 pub mod Bodies
 pub mod UnitSteps
 pub mod Rows
+pub mod Again
+pub mod Found

@@ -8,4 +8,5 @@ pub mod EntryReaders
 pub mod UnitReaders
 pub mod Kept
 pub mod UnitCalls
+pub mod Attributes
 pub mod Laws

@@ -1,6 +1,7 @@
 //! The units of `.debug_info`, with their entries and attributes.
 #![tactic(auto)]
 
+mod attributes;
 mod entry;
 mod fault;
 mod header;
@@ -10,6 +11,7 @@ mod tables;
 mod unit;
 mod units;
 
+pub use attributes::{Attributes, EntryAttribute};
 pub use fault::UnitsErr;
 pub use header::UnitHeader;
 pub use laws::units_are_read_one_way;

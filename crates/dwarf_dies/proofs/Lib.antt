@@ -1,0 +1,13 @@
+pub mod Numbers
+pub mod Ways
+pub mod Sections
+pub mod Splits
+pub mod Views
+pub mod Kept
+pub mod Laws
+pub mod OwnedBy
+pub mod FirstAttributes
+pub mod ChildLists
+pub mod Targets
+pub mod Parents
+pub mod Ancestors

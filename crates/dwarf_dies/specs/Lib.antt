@@ -1,0 +1,6 @@
+pub mod Units
+pub mod Views
+pub mod Laws
+pub mod Parents
+pub mod Children
+pub mod Attributes

@@ -1,0 +1,12 @@
+//! A view of the entries of `.debug_info`, by their numbers.
+#![tactic(auto)]
+
+mod attributes;
+mod bases;
+mod children;
+mod dies;
+mod entry;
+mod links;
+mod texts;
+
+pub use dies::{Dies, read_dies};
