@@ -16,7 +16,7 @@ use Rattle.rv_bytes.proofs.ByteNumbers.{bytes_exact, number_exact}
 use Rattle.rv_bytes.proofs.Lebs.{uleb_exact, sleb_exact}
 use Rattle.expr_bytes.specs.Rules.{bad_operation}
 use Rattle.expr_bytes.specs.Registers.{reg_at}
-use Rattle.expr_bytes.specs.Layouts.{layout_of}
+use Rattle.expr_bytes.specs.Layouts.{layout_of, bytes_in}
 use Rattle.expr_bytes.specs.Operations.{Oper}
 use Rattle.expr_bytes.specs.Operands.{widened, constant, address, register, based, frame_based, sized, operands, any_value, operation}
 use Rattle.expr_bytes.specs.Readers.{read_address, read_register, read_based, read_frame_based, read_sized, read_operands, read_coded, read_operation}
@@ -60,8 +60,8 @@ operands_exact frame addrs (Some Layout.Address) = made_exact (λ a. Some (Oper.
 operands_exact frame addrs (Some Layout.AddressIndex) =
     follow_exact uleb _ read_uleb (λ i. read_address (address_at 8 addrs.section.now addrs.base i)) uleb_exact
     (λ i. address_exact (address_at 8 addrs.section.now addrs.base i))
-operands_exact frame addrs (Some (Layout.Constant w)) = made_exact constant (number w) (read_number w) (number_exact w)
-operands_exact frame addrs (Some (Layout.SignedConstant w)) = made_exact (λ n. constant (widened w n)) (number w) (read_number w) (number_exact w)
+operands_exact frame addrs (Some (Layout.Constant w)) = made_exact constant (number (bytes_in w)) (read_number (bytes_in w)) (number_exact (bytes_in w))
+operands_exact frame addrs (Some (Layout.SignedConstant w)) = made_exact (λ n. constant (widened (bytes_in w) n)) (number (bytes_in w)) (read_number (bytes_in w)) (number_exact (bytes_in w))
 operands_exact frame addrs (Some Layout.ConstantLeb) = made_exact constant uleb read_uleb uleb_exact
 operands_exact frame addrs (Some Layout.SignedConstantLeb) = made_exact (λ z. constant (cast_unsigned w64 z)) sleb read_sleb sleb_exact
 operands_exact frame addrs (Some Layout.DerefSize) = follow_exact (number 1) sized (read_number 1) read_sized (number_exact 1) sized_exact

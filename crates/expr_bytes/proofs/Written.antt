@@ -1,6 +1,7 @@
 -- What is written of operations is spelled, and is read as the same operations.
-use Rattle.std.proofs.Common.{◌≡◌, ◌<◌, ℕ, ℤ, ◌+◌, ◌^◌, ◌==◌, ◌&&◌, nat_lt, nat_le, true, List, [], ◌∷◌, ◌++◌, length, map, take, drop, get_or, Option, Some, inl, inr, refl, sym, ap, subst, ◌∙◌, arith, append-nil, append_assoc, length-append, add-zero, add-one}
+use Rattle.std.proofs.Common.{◌≡◌, ◌<◌, ◌≤◌, ℕ, zero, suc, ℤ, ◌+◌, ◌^◌, ◌==◌, ◌&&◌, nat_lt, nat_le, true, List, [], ◌∷◌, ◌++◌, length, map, take, drop, get_or, Option, Some, inl, inr, refl, sym, ap, subst, ◌∙◌, arith, append-nil, append_assoc, length-append, add-zero, add-one}
 use Rattle.std.proofs.Math.Seq.{take-suc, drop-append_seam}
+use Rattle.std.proofs.lemmas.List.{take_all}
 use Rattle.byteorder.specs.Endian.{little_bytes}
 use Rattle.snapshot_file.specs.declared.registers.Reg.{Reg}
 use Rattle.snapshot_file.specs.declared.registers.Reg.TheVariants as regs
@@ -8,7 +9,8 @@ use Rattle.snapshot_file.specs.Registers.{width_of}
 use Rattle.expr_eval.specs.declared.addresses.Addrs.{Addrs}
 use Rattle.expr_eval.specs.declared.operation.Op.{Op}
 use Rattle.expr_eval.specs.declared.operation.Op.TheVariants as op
-use Rattle.expr_eval.specs.Invariant.{is_sound, AreOps}
+use Rattle.expr_eval.specs.Invariant.{is_sound, each_sound, AreOps}
+use Rattle.expr_eval.proofs.Runs.{and_left, and_right}
 use Rattle.rv_bytes.specs.Forms.{nothing, follow, fails}
 use Rattle.rv_bytes.specs.Numbers.{bytes, number, uleb, sleb}
 use Rattle.rv_bytes.specs.Writers.{IsPut, Extends, AppendsShortest}
@@ -142,6 +144,16 @@ more_put ops i d old mid new l a k w =
           (stand_push frame addrs n (map (λ o. Some (oper_by o)) (take i ops)) (Some (oper_by (get_or ops i d))) a.bytes k.bytes (a.stand frame addrs n)
           (let p = w frame addrs in subst (λ b. (operation frame addrs).spells (n + length a.bytes) (Some (oper_by (get_or ops i d))) b) (same_bytes mid p.bytes k.bytes (sym p.appended ∙ k.appended)) (p.spelled (n + length a.bytes))));
     })
+
+-- each of sound operations is sound
+pub sound_at : (ops : List Op) (i : ℕ) (d : Op) → i < length ops → each_sound ops ≡ true → is_sound (get_or ops i d) ≡ true
+sound_at [] i d l h = absurd (omega (arith, l))
+sound_at (o ∷ ops) zero d l h = and_left (is_sound o) (each_sound ops) h
+sound_at (o ∷ ops) (suc i) d l h = sound_at ops i d (omega (arith, l)) (and_right (is_sound o) (each_sound ops) h)
+
+-- at the end all were appended
+pub all_put : (ops : List Op) (i : ℕ) (old new : List ℕ) → length ops ≤ i → ArePut (take i ops) old new → ArePut ops old new
+all_put ops i old new l a = subst (λ os. ArePut os old new) (take_all i ops l) a
 
 -- what is read of what was written
 read_back : (ops : List Op) → done_by (map (λ o. Some (oper_by o)) ops) ≡ map oper_by ops

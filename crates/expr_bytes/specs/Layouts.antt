@@ -1,8 +1,16 @@
 -- How the operands of each operation lie: DWARF 5, 2.5 and 7.7.1, with addresses of 8 bytes.
-use Rattle.std.specs.Prelude.{ℕ, ◌-◌, ◌==◌, ◌≤◌, ◌&&◌, nat_le, if◌then◌else◌, Option, Some, None}
+use Rattle.std.specs.Prelude.{ℕ, ◌-◌, ◌==◌, ◌&&◌, nat_le, if◌then◌else◌, Option, Some, None}
 use Rattle.expr_eval.specs.declared.operation.Op.TheVariants as op
 use Rattle.expr_bytes.specs.Codes as code
 use Rattle.expr_bytes.specs.declared.layout.Layout.{Layout}
+use Rattle.expr_bytes.specs.declared.width.Width.{Width}
+
+-- how many bytes a number has
+abbrev pub bytes_in : Width → ℕ
+bytes_in Width.One = 1
+bytes_in Width.Two = 2
+bytes_in Width.Four = 4
+bytes_in Width.Eight = 8
 
 -- the table of operations: None for a code that is none of those that are read in a place
 unfoldable pub layout_of : ℕ → Option Layout
@@ -10,14 +18,14 @@ layout_of n =
     if n == code.addr then Some Layout.Address
     else if n == code.deref then Some (Layout.Plain (op.Deref 8))
     -- constants
-    else if n == code.const1u then Some (Layout.Constant 1)
-    else if n == code.const1s then Some (Layout.SignedConstant 1)
-    else if n == code.const2u then Some (Layout.Constant 2)
-    else if n == code.const2s then Some (Layout.SignedConstant 2)
-    else if n == code.const4u then Some (Layout.Constant 4)
-    else if n == code.const4s then Some (Layout.SignedConstant 4)
-    else if n == code.const8u then Some (Layout.Constant 8)
-    else if n == code.const8s then Some (Layout.SignedConstant 8)
+    else if n == code.const1u then Some (Layout.Constant Width.One)
+    else if n == code.const1s then Some (Layout.SignedConstant Width.One)
+    else if n == code.const2u then Some (Layout.Constant Width.Two)
+    else if n == code.const2s then Some (Layout.SignedConstant Width.Two)
+    else if n == code.const4u then Some (Layout.Constant Width.Four)
+    else if n == code.const4s then Some (Layout.SignedConstant Width.Four)
+    else if n == code.const8u then Some (Layout.Constant Width.Eight)
+    else if n == code.const8s then Some (Layout.SignedConstant Width.Eight)
     else if n == code.constu then Some Layout.ConstantLeb
     else if n == code.consts then Some Layout.SignedConstantLeb
     -- moves on the stack
@@ -57,9 +65,3 @@ layout_of n =
     else if n == code.addrx then Some Layout.AddressIndex
     else if n == code.entry_value then Some Layout.Entry
     else None
-
--- a constant has 1 to 8 bytes
-abbrev pub WidthFits : Layout → Type 0
-WidthFits (Layout.Constant w) = (1 ≤ w) × (w ≤ 8)
-WidthFits (Layout.SignedConstant w) = (1 ≤ w) × (w ≤ 8)
-WidthFits _ = Unit {0}

@@ -11,7 +11,7 @@ use Rattle.rv_bytes.specs.Forms.{Form, nothing, follow, made, item, choose, fail
 use Rattle.rv_bytes.specs.Numbers.{bytes, number, uleb, sleb}
 use Rattle.expr_bytes.specs.Rules.{bad_operation}
 use Rattle.expr_bytes.specs.Registers.{reg_at}
-use Rattle.expr_bytes.specs.Layouts.{layout_of}
+use Rattle.expr_bytes.specs.Layouts.{layout_of, bytes_in}
 use Rattle.expr_bytes.specs.Operations.{Oper}
 use Rattle.expr_bytes.specs.declared.layout.Layout.{Layout}
 use Rattle.expr_bytes.specs.declared.place.Frame.{Frame}
@@ -56,8 +56,8 @@ operands frame addrs (Some (Layout.Plain o)) = nothing (Some (Oper.Machine o))
 operands frame addrs (Some Layout.Nop) = nothing None
 operands frame addrs (Some Layout.Address) = made (λ a. Some (Oper.Address a)) (number 8)
 operands frame addrs (Some Layout.AddressIndex) = follow uleb (λ i. address (address_at 8 addrs.section.now addrs.base i))
-operands frame addrs (Some (Layout.Constant w)) = made constant (number w)
-operands frame addrs (Some (Layout.SignedConstant w)) = made (λ n. constant (widened w n)) (number w)
+operands frame addrs (Some (Layout.Constant w)) = made constant (number (bytes_in w))
+operands frame addrs (Some (Layout.SignedConstant w)) = made (λ n. constant (widened (bytes_in w) n)) (number (bytes_in w))
 operands frame addrs (Some Layout.ConstantLeb) = made constant uleb
 operands frame addrs (Some Layout.SignedConstantLeb) = made (λ z. constant (cast_unsigned w64 z)) sleb
 operands frame addrs (Some Layout.DerefSize) = follow (number 1) sized

@@ -12,7 +12,7 @@ use Rattle.rv_bytes.specs.NumberReaders.{read_bytes, read_number, read_uleb, rea
 use Rattle.rv_bytes.specs.declared.err.DwErr.{DwErr}
 use Rattle.expr_bytes.specs.Rules.{bad_operation}
 use Rattle.expr_bytes.specs.Registers.{reg_at}
-use Rattle.expr_bytes.specs.Layouts.{layout_of}
+use Rattle.expr_bytes.specs.Layouts.{layout_of, bytes_in}
 use Rattle.expr_bytes.specs.Operations.{Oper}
 use Rattle.expr_bytes.specs.Operands.{widened, constant, any_value}
 use Rattle.expr_bytes.specs.declared.layout.Layout.{Layout}
@@ -61,8 +61,8 @@ read_operands frame addrs (Some (Layout.Plain o)) n s = got (Some (Oper.Machine 
 read_operands frame addrs (Some Layout.Nop) n s = got None n s
 read_operands frame addrs (Some Layout.Address) n s = with_value (λ a. Some (Oper.Address a)) (read_number 8 n s)
 read_operands frame addrs (Some Layout.AddressIndex) n s = and_then (read_uleb n s) (λ i. read_address (address_at 8 addrs.section.now addrs.base i))
-read_operands frame addrs (Some (Layout.Constant w)) n s = with_value constant (read_number w n s)
-read_operands frame addrs (Some (Layout.SignedConstant w)) n s = with_value (λ v. constant (widened w v)) (read_number w n s)
+read_operands frame addrs (Some (Layout.Constant w)) n s = with_value constant (read_number (bytes_in w) n s)
+read_operands frame addrs (Some (Layout.SignedConstant w)) n s = with_value (λ v. constant (widened (bytes_in w) v)) (read_number (bytes_in w) n s)
 read_operands frame addrs (Some Layout.ConstantLeb) n s = with_value constant (read_uleb n s)
 read_operands frame addrs (Some Layout.SignedConstantLeb) n s = with_value (λ z. constant (cast_unsigned w64 z)) (read_sleb n s)
 read_operands frame addrs (Some Layout.DerefSize) n s = and_then (read_number 1 n s) read_sized

@@ -1,8 +1,9 @@
 //! How the operands of each operation lie (DWARF 5, 2.5 and 7.7.1).
-ghost use Rattle.std.specs.Prelude.{◌≡◌, IfSome};
-ghost use Rattle.expr_bytes.specs.Layouts.{layout_of, WidthFits};
+ghost use Rattle.std.specs.Prelude.{◌≡◌};
+ghost use Rattle.expr_bytes.specs.Layouts.{layout_of};
 
 use crate::code;
+use crate::width::Width;
 use expr_eval::Op;
 
 /// What follows the code of an operation.
@@ -17,9 +18,9 @@ pub enum Layout {
     /// The index of an address.
     AddressIndex,
     /// A number of so many bytes.
-    Constant(u8),
+    Constant(Width),
     /// A number of so many bytes with a sign.
-    SignedConstant(u8),
+    SignedConstant(Width),
     /// A number.
     ConstantLeb,
     /// A number with a sign.
@@ -49,20 +50,19 @@ pub enum Layout {
 /// What follows the code; None where the code is none of those that are read in a place.
 #[tactic(auto, unfolding(crate::specs::Layouts::layout_of))]
 pub fn layout_of(code: u8) -> Option<Layout>
-    ensures layout { result ≡ layout_of code }
-    ensures fits { IfSome result WidthFits }
+    ensures { result ≡ layout_of code }
 {
     let layout = match code {
         code::ADDR => Layout::Address,
         code::DEREF => Layout::Plain(Op::Deref(8)),
-        code::CONST1U => Layout::Constant(1),
-        code::CONST1S => Layout::SignedConstant(1),
-        code::CONST2U => Layout::Constant(2),
-        code::CONST2S => Layout::SignedConstant(2),
-        code::CONST4U => Layout::Constant(4),
-        code::CONST4S => Layout::SignedConstant(4),
-        code::CONST8U => Layout::Constant(8),
-        code::CONST8S => Layout::SignedConstant(8),
+        code::CONST1U => Layout::Constant(Width::One),
+        code::CONST1S => Layout::SignedConstant(Width::One),
+        code::CONST2U => Layout::Constant(Width::Two),
+        code::CONST2S => Layout::SignedConstant(Width::Two),
+        code::CONST4U => Layout::Constant(Width::Four),
+        code::CONST4S => Layout::SignedConstant(Width::Four),
+        code::CONST8U => Layout::Constant(Width::Eight),
+        code::CONST8S => Layout::SignedConstant(Width::Eight),
         code::CONSTU => Layout::ConstantLeb,
         code::CONSTS => Layout::SignedConstantLeb,
         code::DUP => Layout::Plain(Op::Dup),
