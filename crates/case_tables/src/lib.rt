@@ -2,23 +2,19 @@
 #![tactic(auto)]
 
 mod copies;
-mod difference;
 mod dwarf;
-mod lines;
-mod mistake;
-mod named;
 mod numbers;
 mod places;
 mod rows;
 mod sets;
 mod spellings;
 mod values;
-mod words;
 
-pub use difference::tell_difference;
-pub use lines::{
+pub use case_words::difference::tell_difference;
+pub use case_words::lines::{
     bytes_of_hex, cut_line_end, number, pair, put_hex, put_line, put_numbered, put_repeating,
 };
-pub use mistake::Mistake;
-pub use named::Named;
+pub use case_words::mistake::Mistake;
+pub use case_words::named::Named;
+use case_words::{difference, lines, mistake, named, words};
 pub use rows::{Kind, complaint};

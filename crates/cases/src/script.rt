@@ -24,6 +24,8 @@ enum Block {
     Err(u8),
     /// Rows of a public call.
     Table(Kind),
+    /// Rows of a public call on bytes.
+    Bytes(format_tables::Kind),
     /// Rows of lines of this file.
     Rows(String),
 }
@@ -122,6 +124,10 @@ impl Script {
                 let files = self.setting.files.as_slice();
                 complaint(self.alloc, *kind, files, line)?
             }
+            Block::Bytes(kind) => {
+                let files = self.setting.files.as_slice();
+                format_tables::complaint(self.alloc, *kind, files, line)?
+            }
             Block::Rows(_) => self.row_complaint(line)?,
             _ => return Ok(put_line(&mut self.text, line)?),
         };
@@ -140,7 +146,10 @@ impl Script {
 
     /// Adds to the text of the block, or takes its last LF away.
     fn extend(&mut self, word: &str, rest: &str) -> Result<(), Mistake> {
-        if matches!(self.block, Block::Closed | Block::Table(_) | Block::Rows(_)) {
+        if matches!(
+            self.block,
+            Block::Closed | Block::Table(_) | Block::Bytes(_) | Block::Rows(_)
+        ) {
             return Err(Mistake::OutsideABlock);
         }
         match word {
@@ -203,6 +212,11 @@ impl Script {
                     self.finish()?;
                 }
                 self.block = Block::Table(kind);
+                Ok(())
+            }
+            "@bytes" => {
+                self.unused = Vec::new(self.alloc);
+                self.block = Block::Bytes(format_tables::Kind::of_word(rest)?);
                 Ok(())
             }
             "@rows" => {

@@ -42,7 +42,7 @@ impl Script {
     pub(super) fn close(&mut self) -> Result<(), Mistake> {
         let text = mem::replace(&mut self.text, Vec::new(self.alloc));
         match mem::replace(&mut self.block, Block::Closed) {
-            Block::Closed | Block::Table(_) | Block::Rows(_) => Ok(()),
+            Block::Closed | Block::Table(_) | Block::Bytes(_) | Block::Rows(_) => Ok(()),
             Block::Head(name) => Ok(self.setting.set_head(name, text)?),
             Block::File(name) => Ok(self.setting.set_file(name, text)?),
             Block::Out => self.verdict.say_out(Output::Whole(text)),
