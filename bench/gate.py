@@ -1,11 +1,14 @@
 #!/usr/bin/env python3
-"""What the gate costs: minutes of one processor, by crate.
+"""What the gate costs: minutes of one processor, by crate, and seconds of each must-fail edit.
 
     bench/gate.py [COMMAND ..]        from the top of the repository; without a command it is `rt ci --anew`
 
 The command runs as it is, and what it says goes through. Meanwhile each process below it is looked at twice a second, and its time goes to
 the crate that it works on: to the proof, to the tests or to the must-fail edits. What ran between two looks is in the last row alone, which
 is the whole time of the command, as the system counts it. `rt ci NAME --anew` measures a crate and those below it.
+
+A try of an edit runs over a copy of the crate with the edit made, so the copy tells which edit it is. A copy without one is the check of the
+crate as it stands: before its edits, which proves all of it a second time and keeps what was proved for them, and after them.
 """
 import os
 import subprocess
@@ -17,6 +20,8 @@ EVERY = 0.5
 TICKS = os.sysconf('SC_CLK_TCK')
 KINDS = ('proof', 'tests', 'edits')
 PARTS = ('src', 'specs', 'proofs')
+# what stands for an edit where there is none in the copy
+BEFORE, AFTER = '(the crate as it stands, before)', '(the crate as it stands, after)'
 
 
 class Process:
@@ -48,11 +53,43 @@ def work_of(pid):
         if '--crate-name' not in words:
             return None
         crate = words[words.index('--crate-name') + 1]
-        if 'rt-edit' in os.readlink('/proc/%d/cwd' % pid):
-            return crate, 'edits'
-        return crate, 'tests' if '--test' in words else 'proof'
+        copy = os.readlink('/proc/%d/cwd' % pid)
+        if 'rt-edit' in copy:
+            return crate, 'edits', edit_in('crates/%s' % crate, copy)
+        return crate, 'tests' if '--test' in words else 'proof', None
+    except (OSError, ValueError):
+        return None  # it has ended, or its copy of the crate is gone
+
+
+def text_of(path):
+    with open(path, encoding='utf-8') as file:
+        return file.read()
+
+
+def edit_in(folder, copy):
+    """The name of the edit that the copy of a crate was made with."""
+    for name in edits_in(folder):
+        path, text = None, ''
+        for line in text_of(os.path.join(folder, 'must-fail', name)).split('\n'):
+            if line.startswith('file: ') and path is None:
+                path = line[len('file: '):].strip()
+                text = text_of(os.path.join(folder, path))
+            elif line.startswith('file: '):
+                break  # the first file tells it
+            elif line.startswith('old: '):
+                old = line[len('old: '):]
+            elif line.startswith('new:'):
+                text = text.replace(old, line[len('new:'):].removeprefix(' '))
+        if path and text == text_of(os.path.join(copy, path)):
+            return name
+    return BEFORE
+
+
+def edits_in(folder):
+    try:
+        return sorted(name for name in os.listdir(os.path.join(folder, 'must-fail')) if name.endswith('.edit'))
     except OSError:
-        return None
+        return []
 
 
 class Gate:
@@ -70,7 +107,13 @@ class Gate:
             key = pid, process.start
             self.ticks[key] = process.ticks
             if not self.works.get(key):
-                self.works[key] = next(filter(None, map(work_of, line)), None)
+                self.works[key] = self.in_order(next(filter(None, map(work_of, line)), None))
+
+    def in_order(self, work):
+        """The same work, where a check of the crate as it stands comes after edits of that crate if some were seen."""
+        if work and work[2] == BEFORE and any(it and it[0] == work[0] and it[2] not in (None, BEFORE, AFTER) for it in self.works.values()):
+            return *work[:2], AFTER
+        return work
 
     def line_of(self, pid, all_now):
         """The process and its ancestors below the top one, or None where that is none of them."""
@@ -82,12 +125,12 @@ class Gate:
             pid = all_now[pid].parent
         return None
 
-    def minutes(self):
-        """The minutes of each crate and kind."""
+    def seconds(self):
+        """The seconds of each crate, kind and edit."""
         found = {}
         for key, ticks in self.ticks.items():
             if self.works[key]:
-                found[self.works[key]] = found.get(self.works[key], 0) + ticks / TICKS / 60
+                found[self.works[key]] = found.get(self.works[key], 0) + ticks / TICKS
         return found
 
 
@@ -103,23 +146,30 @@ def lines_of(crate):
     return count
 
 
-def edits_of(crate):
-    folder = 'crates/%s/must-fail' % crate
-    return sum(name.endswith('.edit') for name in os.listdir(folder)) if os.path.isdir(folder) else 0
-
-
-def print_table(minutes, whole, wall):
+def print_table(seconds, whole, wall):
     """A table in Markdown, the most costly crate first."""
+    minutes = {}
+    for (crate, kind, _), spent in seconds.items():
+        minutes[crate, kind] = minutes.get((crate, kind), 0) + spent / 60
     print('| Crate | Lines | Edits | Proof | Tests | Edits tried | Minutes | per 1,000 lines |')
     print('|---|---|---|---|---|---|---|---|')
     by_crate = {crate: [minutes.get((crate, kind), 0) for kind in KINDS] for crate, _ in minutes}
     for crate, parts in sorted(by_crate.items(), key=lambda item: -sum(item[1])):
         lines = lines_of(crate)
         per = '%.1f' % (sum(parts) * 1000 / lines) if lines else ''
-        print('| %s | %d | %d | %s | %.1f | %s |' % (crate, lines, edits_of(crate), ' | '.join('%.1f' % it for it in parts), sum(parts), per))
+        print('| %s | %d | %d | %s | %.1f | %s |' % (crate, lines, len(edits_in('crates/' + crate)), ' | '.join('%.1f' % it for it in parts), sum(parts), per))
     sums = [sum(parts[kind] for parts in by_crate.values()) for kind in range(len(KINDS))]
     print('| all crates | | | %s | %.1f | |' % (' | '.join('%.1f' % it for it in sums), sum(sums)))
     print('\nThe command took %.1f minutes of one processor, in %.1f minutes.' % (whole, wall))
+
+
+def print_edits(seconds):
+    """What each must-fail edit cost, and the checks of the crate around them, the dearest first."""
+    print('\n| Crate | Must-fail edit | Seconds |')
+    print('|---|---|---|')
+    tried = [(spent, crate, edit) for (crate, kind, edit), spent in seconds.items() if kind == 'edits']
+    for spent, crate, edit in sorted(tried, reverse=True):
+        print('| %s | %s | %.0f |' % (crate, edit, spent))
 
 
 def main():
@@ -137,7 +187,8 @@ def main():
     _, status, used = os.wait4(command.pid, 0)
     ended.set()
     watcher.join()
-    print_table(gate.minutes(), (used.ru_utime + used.ru_stime) / 60, (time.monotonic() - start) / 60)
+    print_table(gate.seconds(), (used.ru_utime + used.ru_stime) / 60, (time.monotonic() - start) / 60)
+    print_edits(gate.seconds())
     sys.exit(os.waitstatus_to_exitcode(status))
 
 
