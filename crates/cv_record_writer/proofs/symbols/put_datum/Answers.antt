@@ -1,0 +1,18 @@
+-- The fields, one after the other.
+use Rattle.std.proofs.Common.{arith}
+use Rattle.byteorder.specs.Endian.{little_bytes}
+use Rattle.rv_bytes.specs.Numbers.{number, text}
+use Rattle.rv_bytes.proofs.Puts.{on_ok}
+use Rattle.cv_parts.specs.Puts.{name_bytes}
+use Rattle.cv_parts.proofs.PutForms.{puts_number, puts_made, puts_then}
+use Rattle.cv_record_writer.proofs.Fields.{number_then, numeric_then}
+use Rattle.cv_symbol_records.specs.Symbols.{datum_of}
+use Rattle.cv_record_writer.proofs.symbols.put_datum.Goals as goal
+
+pub returns : goal.returns
+returns c =
+    on_ok (λ p. number_then 4 c.args.variable.now.ty _ _ _ c.args.out.now c.put_u32.new.out c.put_name.new.out (omega arith) c.in_ok-put_u32.ensures.appended
+    (number_then 4 c.args.variable.now.offset _ _ _ c.put_u32.new.out c.put_u32-2.new.out c.put_name.new.out (omega arith) c.in_ok-put_u32-2.ensures.appended
+    (number_then 2 c.args.variable.now.section _ _ _ c.put_u32-2.new.out c.put_u16.new.out c.put_name.new.out (omega arith) c.in_ok-put_u16.ensures.appended
+    (puts_made (datum_of c.args.variable.now.ty c.args.variable.now.offset c.args.variable.now.section) text c.args.variable.now.name (name_bytes c.args.variable.now.name) c.put_u16.new.out c.put_name.new.out p))))
+    c.put_name.result c.put_name.ensures

@@ -1,0 +1,4 @@
+pub mod Contents
+pub mod SymbolBytes
+pub mod Symbols
+pub mod Appended
