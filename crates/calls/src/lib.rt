@@ -17,3 +17,5 @@ mod raw_names;
 mod snapshots;
 #[cfg(test)]
 mod streams;
+#[cfg(test)]
+mod type_records;

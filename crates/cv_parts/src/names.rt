@@ -1,5 +1,5 @@
 //! Names, which are texts that end at a zero byte.
-ghost use Rattle.std.specs.Prelude.{◌≡◌, OnOk};
+ghost use Rattle.std.specs.Prelude.{◌≡◌, length, take, OnOk, OnErr};
 ghost use Rattle.rv_bytes.specs.Numbers.{text};
 ghost use Rattle.rv_bytes.specs.NumberReaders.{read_text};
 ghost use Rattle.rv_bytes.specs.Results.{Reads};
@@ -20,11 +20,13 @@ pub fn read_name(alloc: Global, cut: &mut Cut<'_>) -> Result<Text, DwErr>
     Ok(Text::from_bytes(alloc, bytes)?)
 }
 
-/// Appends a name and the zero byte that ends it. Out of memory, a part of it may have been appended.
+/// Appends a name and the zero byte that ends it. Out of memory, the buffer has what it had, and perhaps the
+/// name after it without its zero byte.
 #[tactic(auto, using(crate::proofs::PutForms::puts_name))]
 pub fn put_name(out: &mut Buf, name: &Text) -> Result<(), Memory>
     requires { IsName name.now }
-    ensures { OnOk result (Puts text name.now (name_bytes name.now) out.old out.new) }
+    ensures appended { OnOk result (Puts text name.now (name_bytes name.now) out.old out.new) }
+    ensures front { OnErr result (take (length out.old) out.new ≡ out.old) }
 {
     out.put(name.as_bytes())?;
     put_u8(out, 0)

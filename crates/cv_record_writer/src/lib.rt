@@ -1,4 +1,4 @@
-//! CodeView type records and symbol records are appended to buffers.
+//! CodeView symbol records are appended to buffers, and any record's length and content.
 #![tactic(auto)]
 
 mod leaves;
@@ -6,4 +6,5 @@ mod ranges;
 mod records;
 mod symbols;
 
+pub use records::put_record;
 pub use symbols::put_symbol;

@@ -22,7 +22,7 @@ pub(crate) fn put_zeros(content: &mut Buf) -> Result<(), Memory>
 }
 
 /// Appends the length of a content, and the content. Out of memory, the buffer is as it was.
-pub(crate) fn put_record(out: &mut Buf, content: &[u8]) -> Result<(), Memory>
+pub fn put_record(out: &mut Buf, content: &[u8]) -> Result<(), Memory>
     requires { length content.now ≤ 65535 }
     ensures appended { OnOk result (out.new ≡ out.old ++ record_bytes content.now) }
     ensures same { OnErr result (out.new ≡ out.old) }

@@ -6,3 +6,4 @@ pub use cv_symbol_records::{
     CvGap, CvRange, Datum, Proc, SymKind, SymRec, read_symbols, symbol_records_have_one_reading,
 };
 pub use cv_type_records::{Member, TypeKind, TypeRec, read_types, type_records_have_one_reading};
+pub use cv_type_writer::{put_type, written_types_are_read};

@@ -18,4 +18,4 @@ returns c =
     (number_then 4 c.args.offset _ _ _ c.put_u32-3.new.out c.put_u32-4.new.out c.put_name.new.out (omega arith) c.in_ok-put_u32-4.ensures.appended
     (number_then 2 c.args.section _ _ _ c.put_u32-4.new.out c.put_u16.new.out c.put_name.new.out (omega arith) c.in_ok-put_u16.ensures.appended
     (puts_made (SymKind.Block c.args.parent c.args.end c.args.len c.args.offset c.args.section) text c.args.name.now (name_bytes c.args.name.now) c.put_u16.new.out c.put_name.new.out p)))))))
-    c.put_name.result c.put_name.ensures
+    c.put_name.result c.put_name.ensures.appended

@@ -20,4 +20,4 @@ returns c =
     on_ok (λ p. constant_fields c.args.ty c.args.number c.args.name.now _ c.args.out.now c.put_name.new.out (number_then 4 c.args.ty _ _ _ c.args.out.now c.put_u32.new.out c.put_name.new.out (omega arith) c.in_ok-put_u32.ensures.appended
     (numeric_then c.args.number _ _ _ c.put_u32.new.out c.put_numeric.new.out c.put_name.new.out (numeric_spelled c.args.number c.requires.number.low c.requires.number.high) (subst (λ z. c.put_numeric.new.out ≡ c.put_u32.new.out ++ numeric_bytes z) (to_z-of_z w128 c.args.number c.ranges.number) c.in_ok-put_numeric.ensures.appended)
     (puts_made (SymKind.Constant c.args.ty c.args.number) text c.args.name.now (name_bytes c.args.name.now) c.put_numeric.new.out c.put_name.new.out p))))
-    c.put_name.result c.put_name.ensures
+    c.put_name.result c.put_name.ensures.appended

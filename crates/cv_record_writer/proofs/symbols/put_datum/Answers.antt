@@ -15,4 +15,4 @@ returns c =
     (number_then 4 c.args.variable.now.offset _ _ _ c.put_u32.new.out c.put_u32-2.new.out c.put_name.new.out (omega arith) c.in_ok-put_u32-2.ensures.appended
     (number_then 2 c.args.variable.now.section _ _ _ c.put_u32-2.new.out c.put_u16.new.out c.put_name.new.out (omega arith) c.in_ok-put_u16.ensures.appended
     (puts_made (datum_of c.args.variable.now.ty c.args.variable.now.offset c.args.variable.now.section) text c.args.variable.now.name (name_bytes c.args.variable.now.name) c.put_u16.new.out c.put_name.new.out p))))
-    c.put_name.result c.put_name.ensures
+    c.put_name.result c.put_name.ensures.appended

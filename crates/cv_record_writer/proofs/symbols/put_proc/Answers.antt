@@ -22,4 +22,4 @@ returns c =
     (puts_then (number 2) _ c.args.procedure.now.section _ (little_bytes 2 c.args.procedure.now.section) _ c.put_dword-8.new.out c.put_word.new.out c.put_name.new.out c.in_ok-put_word.ensures
     (puts_then (number 1) _ c.args.procedure.now.flags _ (little_bytes 1 c.args.procedure.now.flags) _ c.put_word.new.out c.put_byte.new.out c.put_name.new.out c.in_ok-put_byte.ensures
     (puts_made (proc_of c.args.procedure.now.parent c.args.procedure.now.end c.args.procedure.now.next c.args.procedure.now.len c.args.procedure.now.debug_start c.args.procedure.now.debug_end c.args.procedure.now.ty c.args.procedure.now.offset c.args.procedure.now.section c.args.procedure.now.flags) text c.args.procedure.now.name (name_bytes c.args.procedure.now.name) c.put_byte.new.out c.put_name.new.out p)))))))))))
-    c.put_name.result c.put_name.ensures
+    c.put_name.result c.put_name.ensures.appended

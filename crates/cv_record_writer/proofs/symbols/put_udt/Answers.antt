@@ -14,4 +14,4 @@ pub returns : goal.returns
 returns c =
     on_ok (λ p. udt_fields c.args.ty c.args.name.now _ c.args.out.now c.put_name.new.out (number_then 4 c.args.ty _ _ _ c.args.out.now c.put_u32.new.out c.put_name.new.out (omega arith) c.in_ok-put_u32.ensures.appended
     (puts_made (SymKind.Udt c.args.ty) text c.args.name.now (name_bytes c.args.name.now) c.put_u32.new.out c.put_name.new.out p)))
-    c.put_name.result c.put_name.ensures
+    c.put_name.result c.put_name.ensures.appended
