@@ -14,7 +14,7 @@ use Rattle.dwarf_entries.specs.Shapes.{Entry}
 use Rattle.dwarf_dies.specs.Laws.{AreLinked}
 use Rattle.dwarf_dies.specs.Units.{entry_of, numbered_from, units_from}
 use Rattle.dwarf_dies.specs.Views.{die_of}
-use Rattle.dwarf_dies.proofs.Kept.{Sees, numbered_long}
+use Rattle.dwarf_dies.proofs.Kept.{Sees, counted, numbered_long}
 use Rattle.dwarf_dies.proofs.Numbers.{numbered}
 use Rattle.dwarf_dies.proofs.Sections.{HasParent, AreUnitsFrom, all_parents, read_back}
 use Rattle.dwarf_dies.proofs.Splits.{are_units}
@@ -64,4 +64,5 @@ linked abbrevs info kept s = record {
       let r = read_of abbrevs info kept s n d h in
       earlier kept.tree s.order.order n k (ap (option_and_then (λ (x : Node). x.up)) r.node ∙ ap (λ (e : Entry). e.up) r.is ∙ up);
   roots = λ n d h none. (parents_of abbrevs info kept s n d h).root none;
+  few = subst (λ n. n ≤ 8000000) (counted abbrevs info kept s) s.order.few;
 }

@@ -11,3 +11,4 @@ pub mod ChildLists
 pub mod Targets
 pub mod Parents
 pub mod Ancestors
+pub mod Handles

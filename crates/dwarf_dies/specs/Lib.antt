@@ -4,3 +4,4 @@ pub mod Laws
 pub mod Parents
 pub mod Children
 pub mod Attributes
+pub mod Handles

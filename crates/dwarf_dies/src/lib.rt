@@ -4,9 +4,11 @@
 mod attributes;
 mod bases;
 mod children;
+mod die;
 mod dies;
 mod entry;
 mod links;
 mod texts;
 
+pub use die::{Children, Die, Iter};
 pub use dies::{Dies, read_dies};

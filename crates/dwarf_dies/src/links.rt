@@ -48,6 +48,15 @@ impl<'a> Dies<'a> {
         self.at_offset(target as u64)
     }
 
+    /// The number of the entry to which a reference leads, from a unit that begins at this offset; None
+    /// where it is no reference, and where it leads to no entry. Takes no memory.
+    pub fn target(&self, start: u64, value: Attr<'_>) -> Option<u32>
+        ensures { result ≡ option_map number_of_die (option_and_then (die_at self.now) (target_of start (val_of value.entry))) }
+    {
+        let target = target_of(start, value)?;
+        self.at_target(target)
+    }
+
     /// The number of the entry to which the first attribute with this code leads; None where there is no
     /// such attribute, where it is no reference, and where it leads to no entry. Takes no memory.
     pub fn linked(&self, number: u32, code: u64) -> Option<u32>
