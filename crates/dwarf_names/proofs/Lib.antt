@@ -1,0 +1,4 @@
+pub mod OwnTexts
+pub mod ScopeSteps
+pub mod JoinedTexts
+pub mod WordTexts
