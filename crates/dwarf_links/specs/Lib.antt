@@ -1,0 +1,4 @@
+pub mod Ends
+pub mod SetTypes
+pub mod BaseTypes
+pub mod Links
