@@ -1,0 +1,6 @@
+pub mod Faults
+pub mod Places
+pub mod LowFirsts
+pub mod NamesAround
+pub mod OriginSteps
+pub mod Rows

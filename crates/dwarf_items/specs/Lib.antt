@@ -1,0 +1,4 @@
+pub mod Answers
+pub mod Firsts
+pub mod Lacks
+pub mod Scopes

@@ -1,0 +1,13 @@
+//! The rules that the attributes of entries break, and where.
+#![tactic(auto)]
+
+mod around;
+mod entries;
+mod firsts;
+mod items;
+mod locations;
+mod name;
+mod origins;
+mod own;
+
+pub use entries::check_attributes;
