@@ -1,0 +1,4 @@
+pub mod Begins
+pub mod Nexts
+pub mod Readings
+pub mod Stacks

@@ -1,0 +1,4 @@
+pub mod Beginnings
+pub mod Nexts
+pub mod OneReading
+pub mod ReadBack
