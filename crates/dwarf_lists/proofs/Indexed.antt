@@ -1,5 +1,5 @@
 -- What an index leads to is one thing, since the readers of offsets and texts are exact.
-use Rattle.std.proofs.Common.{◌≡◌, ◌<◌, ◌≤◌, ℕ, ◌+◌, ◌*◌, List, length, drop, Result, Ok, Err, IfOk, IfErr, inl, inr, refl, sym, subst, ◌∙◌, ◌⊎◌, arith}
+use Rattle.std.proofs.Common.{◌≡◌, ◌<◌, ◌≤◌, ℕ, ◌+◌, ◌*◌, List, length, drop, Option, Some, None, IfNone, Result, Ok, Err, IfOk, IfErr, inl, inr, refl, sym, subst, ◌∙◌, ◌⊎◌, arith}
 use Rattle.std.proofs.lemmas.Bool.{cases_lt}
 use Rattle.rv_bytes.specs.Forms.{IsDefinite}
 use Rattle.rv_bytes.specs.Numbers.{number, text}
@@ -14,7 +14,9 @@ use Rattle.rv_bytes.proofs.Exact.{Right, definite}
 use Rattle.rv_bytes.proofs.ByteNumbers.{number_exact}
 use Rattle.rv_bytes.proofs.CheckedTexts.{text_exact}
 use Rattle.rv_bytes.proofs.Sections as sections
-use Rattle.dwarf_lists.specs.Texts.{HasOffset, LeadsTo, HasText, offset_place, HasNoText, HasAnswer, IndexHasOneAnswer}
+use Rattle.dwarf_lists.specs.Offsets.{HasOffset, offset_place}
+use Rattle.dwarf_lists.specs.Texts.{LeadsTo, HasText, HasNoText, HasAnswer, IndexHasOneAnswer}
+use Rattle.dwarf_lists.specs.Places.{HasList, IndexHasOneList}
 
 text_definite : IsDefinite text
 text_definite = definite text read_text text_exact
@@ -23,7 +25,7 @@ number_answer : HasOneAnswer outside (number 4)
 number_answer = sections.one_answer outside (number 4) (definite (number 4) (read_number 4) (number_exact 4))
 
 -- an index has at most one offset
-one_offset : (offsets : List ℕ) (base index o p : ℕ) → HasOffset offsets base index o → HasOffset offsets base index p → o ≡ p
+pub one_offset : (offsets : List ℕ) (base index o p : ℕ) → HasOffset offsets base index o → HasOffset offsets base index p → o ≡ p
 one_offset offsets base index o p a b =
     number_answer.one_value offsets (base + 4 * index) o p a b
 
@@ -107,3 +109,16 @@ one_answer = record {
         let first : text.faults a.offset (drop a.offset texts) r o = subst (λ k. text.faults k (drop k texts) r o) same h.1.1 in
         let s = a.begins.begins in
         text_definite.never_both a.offset v s.front s.back r o s.is_front (subst (λ z. text.faults a.offset z r o) s.split first)
+
+-- an index leads to one list
+pub one_list : IndexHasOneList
+one_list section base index at other a b = omega (arith, a.counts, b.counts, one_offset section base index a.offset b.offset a.stands b.stands)
+
+-- an offset that leads outside is that of no list
+pub no_list : (section : List ℕ) (base index offset : ℕ) → HasOffset section base index offset → length section ≤ base + offset → (at : ℕ) → ¬ HasList section base index at
+no_list section base index offset s g at l = absurd (omega (arith, l.counts, l.inside, g, one_offset section base index l.offset offset l.stands s))
+
+-- an index without an offset leads to none
+pub no_list_offset : {A : Type 0} (o : Option A) (section : List ℕ) (base index : ℕ) → ((offset : ℕ) → ¬ HasOffset section base index offset) → IfNone o ((at : ℕ) → ¬ HasList section base index at)
+no_list_offset (Some x) section base index h = tt
+no_list_offset None section base index h = λ at l. h l.offset l.stands

@@ -1,13 +1,10 @@
--- The texts that indexes lead to: DWARF 5, 7.26, with offsets of 4 bytes.
-use Rattle.std.specs.Prelude.{◌≡◌, ◌<◌, ℕ, ◌+◌, ◌-◌, ◌*◌, ◌^◌, min, List, length, drop, ◌⊎◌}
+-- The texts that indexes lead to: DWARF 5, 7.26.
+use Rattle.std.specs.Prelude.{◌≡◌, ◌<◌, ℕ, List, length, drop, ◌⊎◌}
 use Rattle.rv_bytes.specs.Rules.{outside}
-use Rattle.rv_bytes.specs.Numbers.{number, text}
+use Rattle.rv_bytes.specs.Numbers.{text}
 use Rattle.rv_bytes.specs.Sections.{BeginsAt}
 use Rattle.rv_bytes.specs.declared.err.DwErr.{DwErr}
-
--- from the base on stand offsets of 4 bytes, which the index counts from 0, and the one at the index is this
-abbrev pub HasOffset : List ℕ → ℕ → ℕ → ℕ → Type 0
-HasOffset offsets base index offset = BeginsAt (number 4) offsets (base + 4 * index) offset
+use Rattle.dwarf_lists.specs.Offsets.{HasOffset, offset_place}
 
 -- the offset at the index is inside the texts
 pub record LeadsTo (offsets : List ℕ) (base index : ℕ) (texts : List ℕ) (offset : ℕ) : Type 0 where
@@ -19,10 +16,6 @@ pub record HasText (offsets : List ℕ) (base index : ℕ) (texts value : List �
   pub offset : ℕ
   pub stands : HasOffset offsets base index offset
   pub begins : BeginsAt text texts offset value
-
--- where a refusal says that the offset at an index is to stand; a place is below 2^64
-abbrev pub offset_place : ℕ → ℕ → ℕ
-offset_place base index = min (base + 4 * index) (2 ^ 64 - 1)
 
 -- why the index has no text: no offset at it is inside the texts, or one is, and the bytes from there on are invalid as a text.
 -- Memory may always run out.

@@ -1,0 +1,26 @@
+-- The kinds of range list entries, named as the standard names them, without DW_RLE_: DWARF 5, 7.25.
+use Rattle.std.specs.Prelude.{ℕ}
+
+abbrev pub end_of_list : ℕ
+end_of_list = 0x00
+
+abbrev pub base_addressx : ℕ
+base_addressx = 0x01
+
+abbrev pub startx_endx : ℕ
+startx_endx = 0x02
+
+abbrev pub startx_length : ℕ
+startx_length = 0x03
+
+abbrev pub offset_pair : ℕ
+offset_pair = 0x04
+
+abbrev pub base_address : ℕ
+base_address = 0x05
+
+abbrev pub start_end : ℕ
+start_end = 0x06
+
+abbrev pub start_length : ℕ
+start_length = 0x07
