@@ -5,9 +5,10 @@ use case_words::lines::number;
 use case_words::mistake::Mistake;
 use case_words::words::{bytes_of, first, hex_of};
 use expr_bytes::{
-    Frame, Operation, address, based, constant, counted, ends, frame_based, layout_of, number_of,
-    register, sized,
+    Addrs, Frame, Operation, OpsErr, address, based, constant, counted, ends, frame_based,
+    layout_of, number_of, register, sized,
 };
+use expr_reader::read_ops;
 use rv_bytes::{Cut, DwErr};
 use snapshot_file::{Reg, reg_of};
 use std::alloc::Global;
@@ -19,6 +20,7 @@ pub fn answer(alloc: Global, row: &str) -> Result<String, Mistake> {
         "layout" => layout(alloc, words),
         "number" => register_number(alloc, words),
         "ends" => is_end(alloc, words),
+        "place" => place(alloc, words),
         "counted" => value(alloc, words),
         "constant" => {
             let found = constant(number::<u64>(words)?);
@@ -71,6 +73,27 @@ fn is_end(alloc: Global, bytes: &str) -> Result<String, Mistake> {
     let bytes = bytes_of(alloc, &[], bytes)?;
     let found = ends(&Cut::new(bytes.as_slice()));
     Ok(format!(in alloc; "{found}")?)
+}
+
+/// Of `FRAME ADDRESSES BYTES` the place that the operations say, and how many bytes are left.
+fn place(alloc: Global, words: &str) -> Result<String, Mistake> {
+    let (frame, words) = first(words)?;
+    let (section, bytes) = first(words)?;
+    let section = bytes_of(alloc, &[], section)?;
+    let bytes = bytes_of(alloc, &[], bytes)?;
+    let addrs = Addrs {
+        section: section.as_slice(),
+        base: Some(0),
+    };
+    let mut cut = Cut::new(bytes.as_slice());
+    match read_ops(alloc, &mut cut, frame_in(frame)?, &addrs) {
+        Ok(place) => {
+            let left = cut.left();
+            Ok(format!(in alloc; "{place:?}, {left} left")?)
+        }
+        Err(OpsErr::Memory) => Err(Mistake::Memory),
+        Err(e) => Ok(format!(in alloc; "{e}")?),
+    }
 }
 
 /// Of `BYTES` those that the length before them counts, and how many are left.

@@ -4,7 +4,9 @@
 mod bundles;
 mod cv_calls;
 mod dwarf_calls;
+mod entries;
 mod expr_calls;
+mod lists;
 mod rows;
 mod shown;
 mod symbol_records;

@@ -1,5 +1,7 @@
 //! Tables of public calls: a row `INPUT | WANTED` for each case.
-use crate::{bundles, cv_calls, dwarf_calls, expr_calls, symbol_records, type_records, units};
+use crate::{
+    bundles, cv_calls, dwarf_calls, entries, expr_calls, lists, symbol_records, type_records, units,
+};
 use case_words::difference::tell_difference;
 use case_words::lines::pair;
 use case_words::mistake::Mistake;
@@ -15,6 +17,8 @@ pub enum Kind {
     Bundles,
     /// Units: `ABBREVIATIONS INFO | UNIT; UNIT ..`, with their entries, or the error.
     Units,
+    /// Entries and what is around them: `ABBREVIATIONS INFO TEXTS OFFSETS | file NAME` of a line for each, or the error.
+    Entries,
     /// Type records of CodeView: `BYTES | RECORD; RECORD ..`, or the error.
     TypeRecords,
     /// Symbol records of CodeView, likewise.
@@ -25,17 +29,21 @@ pub enum Kind {
     TypeCalls,
     /// Small calls on expressions in bytes, likewise.
     OperationCalls,
+    /// Location lists and range lists, likewise.
+    Lists,
 }
 
 /// The names of the kinds.
-const KINDS: [(&str, Kind); 7] = [
+const KINDS: [(&str, Kind); 9] = [
     ("bundles", Kind::Bundles),
     ("units", Kind::Units),
+    ("entries", Kind::Entries),
     ("type-records", Kind::TypeRecords),
     ("symbol-records", Kind::SymbolRecords),
     ("entry-calls", Kind::EntryCalls),
     ("type-calls", Kind::TypeCalls),
     ("operation-calls", Kind::OperationCalls),
+    ("lists", Kind::Lists),
 ];
 
 impl Kind {
@@ -69,10 +77,12 @@ fn answer(alloc: Global, kind: Kind, files: &[Named], input: &str) -> Result<Str
     match kind {
         Kind::Bundles => bundles::outcome(alloc, files, input),
         Kind::Units => units::outcome(alloc, files, input),
+        Kind::Entries => entries::outcome(alloc, files, input),
         Kind::TypeRecords => type_records::outcome(alloc, files, input),
         Kind::SymbolRecords => symbol_records::outcome(alloc, files, input),
         Kind::EntryCalls => dwarf_calls::answer(alloc, input),
         Kind::TypeCalls => cv_calls::answer(alloc, input),
         Kind::OperationCalls => expr_calls::answer(alloc, input),
+        Kind::Lists => lists::answer(alloc, files, input),
     }
 }
