@@ -1,0 +1,4 @@
+pub mod Reaches
+pub mod Chains
+pub mod Counted
+pub mod Firsts
