@@ -1,0 +1,4 @@
+pub mod Beside
+pub mod Elsewhere
+pub mod Members
+pub mod TwoMembers
