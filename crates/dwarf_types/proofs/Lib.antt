@@ -1,0 +1,9 @@
+pub mod Lists
+pub mod Children
+pub mod Tags
+pub mod Rules
+pub mod Looks
+pub mod Parts
+pub mod Members
+pub mod Words
+pub mod SetTypes
