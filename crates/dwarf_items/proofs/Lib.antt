@@ -4,3 +4,4 @@ pub mod LowFirsts
 pub mod NamesAround
 pub mod OriginSteps
 pub mod Rows
+pub mod PartLists

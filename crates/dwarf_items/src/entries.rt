@@ -5,6 +5,7 @@ ghost use Rattle.dwarf_entries.specs.AttributeItems.{firsts};
 ghost use Rattle.dwarf_entries.specs.Items.{first_fault};
 ghost use Rattle.dwarf_entries.specs.PassB.{attribute_items, entry_items, further_items, pass_b, row_class};
 ghost use Rattle.dwarf_items.specs.Answers.{Answers};
+ghost use Rattle.dwarf_items.specs.Parts.{are_with_parts};
 
 use crate::firsts::first_attributes;
 use crate::items::answer;
@@ -12,10 +13,11 @@ use crate::locations::location_items;
 use crate::name::name_items;
 use crate::origins::origins_items;
 use crate::own::own_item;
+use crate::parts::{Parts, read_parts};
 use dwarf_dies::{Die, Dies};
 use dwarf_entries::{Class, Tag, at, class_of, rule};
 use dwarf_scopes::tags::{is_function, is_member, is_variable};
-use dwarf_scopes::{is_beside_part, is_in_function, is_read, role_of};
+use dwarf_scopes::{is_in_function, is_read, role_of};
 use dwarf_units::EntryAttribute;
 use layout_set::ReadErr;
 use std::alloc::Global;
@@ -77,10 +79,11 @@ fn looked_at(alloc: Global, die: &Die<'_>) -> Result<(), ReadErr>
 }
 
 /// Checks an entry: a function isn't read yet, and of others the attributes are looked at.
-fn entry_items(alloc: Global, die: &Die<'_>) -> Result<(), ReadErr>
+fn entry_items(alloc: Global, parts: &Parts, die: &Die<'_>) -> Result<(), ReadErr>
+    requires { parts.now.has_part ≡ are_with_parts die.now.info }
     ensures { Answers (first_fault (entry_items die.now.info die.now.die)) result }
 {
-    if !is_read(die) || (is_member(die.what()) && is_beside_part(die)) {
+    if !is_read(die) || (is_member(die.what()) && parts.is_beside(die)) {
         return Ok(());
     }
     if is_function(die.what()) {
@@ -95,8 +98,9 @@ pub fn check_attributes(alloc: Global, dies: &Dies<'_>) -> Result<(), ReadErr>
     // No item breaks a rule, or the refusal says which is the first that does.
     ensures { Answers (first_fault (pass_b dies.now)) result }
 {
+    let parts = read_parts(alloc, dies)?;
     for die in dies.iter() {
-        entry_items(alloc, &die)?;
+        entry_items(alloc, &parts, &die)?;
     }
     Ok(())
 }

@@ -9,5 +9,6 @@ mod locations;
 mod name;
 mod origins;
 mod own;
+mod parts;
 
 pub use entries::check_attributes;
