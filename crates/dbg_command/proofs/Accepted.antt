@@ -15,11 +15,14 @@ use Rattle.snapshot_file.specs.declared.snapshot.Snapshot.{Snapshot}
 use Rattle.snapshot_file.specs.declared.fault.SnapErr.{SnapErr}
 use Rattle.snapshot_file.specs.declared.fault.SnapErr.TheVariants as snap_errs
 use Rattle.snapshot_file.specs.Claims as snapshots
-use Rattle.dbg_command.specs.Forms.{Form, check, text, form_of, layout_name}
-use Rattle.dbg_command.specs.Answers.{Ending, WithinLimit, WithFile, OfSnapshot, WithSnapshot, OfCheck, OfLawful, OfLaws, OfSet, OfRead, OfBytes, OfForm, Answers}
-use Rattle.dbg_command.specs.OneEnding.{IsGiven, SpellsLawful, SpellsSnapshot, IsAccepted, AcceptedAreAnswered}
+use Rattle.layout_set.specs.declared.refusal.ReadErr.{ReadErr}
+use Rattle.layout_set.specs.declared.refusal.ReadErr.TheVariants as refusals
+use Rattle.bundle_reader.specs.Readings as bundles
+use Rattle.dbg_command.specs.Forms.{Form, LayoutCommand, BundleCommand, layout, bundle, check, text, show, print, form_of}
+use Rattle.dbg_command.specs.Answers.{Ending, WithinLimit, WithFile, OfSnapshot, WithSnapshot, OfCheck, OfText, OfLawful, OfLaws, OfSet, OfRead, OfLayout, OfDescribed, OfSections, OfBundle, OfForm, Answers}
+use Rattle.dbg_command.specs.OneEnding.{IsGiven, SpellsLawful, SpellsSnapshot, IsLayoutAccepted, IsBundleAccepted, IsAccepted, AcceptedAreAnswered}
 use Rattle.dbg_command.specs.Runs.{Ends}
-use Rattle.dbg_command.proofs.OneReading.{one_layout, one_snapshot, one_check}
+use Rattle.dbg_command.proofs.OneReading.{one_layout, one_snapshot, one_bundle, one_check}
 use Rattle.dbg_command.proofs.OneEnding.{Below}
 
 -- every ending of this kind has status 0
@@ -50,29 +53,44 @@ module _ (B : Below) where
   of_check : (set : Set) → IsDone (OfCheck set)
   of_check set s o m h = h.2.0
 
-  of_laws : (form : Form) (files : Files) (set : Set) → IsLawful set → IsDone (OfLawful form files set) → IsDone (OfSet form files set)
-  of_laws form files set lawful done s o m h =
-      let same : h.0 ≡ Ok tt = one_check set (laws set) (B.one_breach set) h.0 (Ok tt) h.1 lawful (λ e. subst (λ r. OfLaws form files set r s o m) e h.2) (λ e. subst IsOkay e tt) in
-      done s o m (subst (λ r. OfLaws form files set r s o m) same h.2)
+  of_text : (set : Set) (depth width : ℕ) (snapshot : List ℕ) (files : Files) → IsGiven files snapshot 67108864 SpellsSnapshot → IsDone (OfText set depth width snapshot files)
+  of_text set depth width snapshot files given =
+      with_file snapshot 67108864 (WithSnapshot set depth width) (file files snapshot) given.0 given.1 given.2 (with_snapshot set depth width given.0 given.3)
 
-  of_bytes : (form : Form) (files : Files) (bytes : List ℕ) (set : Set) → layouts.IsReading bytes (Ok set) → IsDone (OfSet form files set) → IsDone (OfBytes form files bytes)
-  of_bytes form files bytes set spells done s o m h =
-      let same : h.0 ≡ Ok set = one_layout B.one_set B.layout_spelled B.layout_fault bytes h.0 (Ok set) h.1 spells (λ e. subst (λ r. OfRead form files r s o m) e h.2) (λ e. subst IsOkay e tt) in
-      done s o m (subst (λ r. OfRead form files r s o m) same h.2)
+  of_lawful : (command : LayoutCommand) (files : Files) (set : Set) → IsLayoutAccepted files command → IsDone (OfLawful command files set)
+  of_lawful check files set given = of_check set
+  of_lawful (text p) files set given = of_text set p.depth p.width p.snapshot files given
+
+  of_laws : (command : LayoutCommand) (files : Files) (set : Set) → IsLawful set → IsDone (OfLawful command files set) → IsDone (OfSet command files set)
+  of_laws command files set lawful done s o m h =
+      let same : h.0 ≡ Ok tt = one_check set (laws set) (B.one_breach set) h.0 (Ok tt) h.1 lawful (λ e. subst (λ r. OfLaws command files set r s o m) e h.2) (λ e. subst IsOkay e tt) in
+      done s o m (subst (λ r. OfLaws command files set r s o m) same h.2)
+
+  of_layout : (command : LayoutCommand) (files : Files) (bytes : List ℕ) (set : Set) → layouts.IsReading bytes (Ok set) → IsDone (OfSet command files set) → IsDone (OfLayout command files bytes)
+  of_layout command files bytes set spells done s o m h =
+      let same : h.0 ≡ Ok set = one_layout B.one_set B.layout_spelled B.layout_fault bytes h.0 (Ok set) h.1 spells (λ e. subst (λ r. OfRead command files r s o m) e h.2) (λ e. subst IsOkay e tt) in
+      done s o m (subst (λ r. OfRead command files r s o m) same h.2)
+
+  of_described : (command : BundleCommand) (files : Files) (set : Set) → IsBundleAccepted files command → IsDone (OfDescribed command files set)
+  of_described show files set given s o m h = h.0
+  of_described (print p) files set given s o m h = of_text set p.depth p.width p.snapshot files given s o m h
+
+  of_bundle : (command : BundleCommand) (files : Files) (bytes : List ℕ) (set : Set) → bundles.IsReading bytes (Ok set) → IsDone (OfDescribed command files set) → IsDone (OfBundle command files bytes)
+  of_bundle command files bytes set is done s o m h =
+      let same : h.0 ≡ Ok set = one_bundle B.one_bundle bytes h.0 (Ok set) h.1 is (λ e. subst (λ r. OfSections command files r s o m) e h.2) (λ e. subst IsOkay e tt) in
+      done s o m (subst (λ r. OfSections command files r s o m) same h.2)
 
   of_form : (form : Form) (files : Files) → IsAccepted files form → IsDone (OfForm (Some form) files)
-  of_form (check layout) files given =
-      let lawful = given.3 in
-      with_file layout 16777216 (OfBytes (check layout) files) (file files layout) given.0 given.1 given.2
-      (of_bytes (check layout) files given.0 lawful.0 lawful.1 (of_laws (check layout) files lawful.0 lawful.2 (of_check lawful.0)))
-  of_form (text layout snapshot depth width) files given =
-      let form = text layout snapshot depth width in
+  of_form (layout name command) files given =
       let first = given.0 in
-      let second = given.1 in
       let lawful = first.3 in
-      let done = with_file snapshot 67108864 (WithSnapshot lawful.0 depth width) (file files snapshot) second.0 second.1 second.2 (with_snapshot lawful.0 depth width second.0 second.3) in
-      with_file layout 16777216 (OfBytes form files) (file files layout) first.0 first.1 first.2
-      (of_bytes form files first.0 lawful.0 lawful.1 (of_laws form files lawful.0 lawful.2 done))
+      with_file name 16777216 (OfLayout command files) (file files name) first.0 first.1 first.2
+      (of_layout command files first.0 lawful.0 lawful.1 (of_laws command files lawful.0 lawful.2 (of_lawful command files lawful.0 given.1)))
+  of_form (bundle name command) files given =
+      let first = given.0 in
+      let described = first.3 in
+      with_file name 536870912 (OfBundle command files) (file files name) first.0 first.1 first.2
+      (of_bundle command files first.0 described.0 described.1 (of_described command files described.0 given.1))
 
   pub accepted : AcceptedAreAnswered
   accepted words form files rb rn wb wn code output message is given ends no_read no_write =

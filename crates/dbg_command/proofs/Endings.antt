@@ -12,6 +12,7 @@ module _ (named : Type 0) (told : Option Files) (Holds : Files → ℕ → List 
   ends_stop (stops.LayoutLimit w) h n = record { silent = λ e. absurd (omega arith); stopped = λ _. ((stops.LayoutLimit w), refl, refl); answered = λ _. h; refused = λ _ _. refl; usage = λ e. absurd (omega arith); nameless = λ m. absurd (m n); read = λ e. absurd (omega arith); write = λ e. absurd (omega arith); memory = λ e. absurd (omega arith); status = lit≤ tt }
   ends_stop (stops.Breach k at) h n = record { silent = λ e. absurd (omega arith); stopped = λ _. ((stops.Breach k at), refl, refl); answered = λ _. h; refused = λ _ _. refl; usage = λ e. absurd (omega arith); nameless = λ m. absurd (m n); read = λ e. absurd (omega arith); write = λ e. absurd (omega arith); memory = λ e. absurd (omega arith); status = lit≤ tt }
   ends_stop (stops.SnapshotLine l r) h n = record { silent = λ e. absurd (omega arith); stopped = λ _. ((stops.SnapshotLine l r), refl, refl); answered = λ _. h; refused = λ _ _. refl; usage = λ e. absurd (omega arith); nameless = λ m. absurd (m n); read = λ e. absurd (omega arith); write = λ e. absurd (omega arith); memory = λ e. absurd (omega arith); status = lit≤ tt }
+  ends_stop (stops.Outside r) h n = record { silent = λ e. absurd (omega arith); stopped = λ _. ((stops.Outside r), refl, refl); answered = λ _. h; refused = λ _ _. refl; usage = λ e. absurd (omega arith); nameless = λ m. absurd (m n); read = λ e. absurd (omega arith); write = λ e. absurd (omega arith); memory = λ e. absurd (omega arith); status = lit≤ tt }
   ends_stop (stops.SnapshotOverlap l) h n = record { silent = λ e. absurd (omega arith); stopped = λ _. ((stops.SnapshotOverlap l), refl, refl); answered = λ _. h; refused = λ _ _. refl; usage = λ e. absurd (omega arith); nameless = λ m. absurd (m n); read = λ e. absurd (omega arith); write = λ e. absurd (omega arith); memory = λ e. absurd (omega arith); status = lit≤ tt }
   ends_stop (stops.CannotOpen name) h n = record { silent = λ e. absurd (omega arith); stopped = λ _. ((stops.CannotOpen name), refl, refl); answered = λ _. h; refused = λ _ _. refl; usage = λ e. absurd (omega arith); nameless = λ m. absurd (m n); read = λ e. absurd (omega arith); write = λ e. absurd (omega arith); memory = λ e. absurd (omega arith); status = lit≤ tt }
   ends_stop (stops.TooManyBytes name) h n = record { silent = λ e. absurd (omega arith); stopped = λ _. ((stops.TooManyBytes name), refl, refl); answered = λ _. h; refused = λ _ _. refl; usage = λ e. absurd (omega arith); nameless = λ m. absurd (m n); read = λ e. absurd (omega arith); write = λ e. absurd (omega arith); memory = λ e. absurd (omega arith); status = lit≤ tt }

@@ -2,6 +2,7 @@ pub mod Bounded
 pub mod Text
 pub mod InOrder
 pub mod Endings
+pub mod Entered
 pub mod Puts
 pub mod OneReading
 pub mod OnePrint

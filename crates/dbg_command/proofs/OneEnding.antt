@@ -16,11 +16,15 @@ use Rattle.snapshot_file.specs.declared.fault.SnapErr.{SnapErr}
 use Rattle.snapshot_file.specs.declared.fault.SnapErr.TheVariants as snap_errs
 use Rattle.snapshot_file.specs.Claims as snapshots
 use Rattle.snapshot_file.specs.Snapshots.{OneSnapshot}
-use Rattle.dbg_command.specs.Forms.{Form, check, text, form_of, layout_name}
+use Rattle.layout_lines.specs.Sets.{layout_text}
+use Rattle.layout_set.specs.declared.refusal.ReadErr.{ReadErr}
+use Rattle.layout_set.specs.declared.refusal.ReadErr.TheVariants as refusals
+use Rattle.bundle_reader.specs.Readings as bundles
+use Rattle.dbg_command.specs.Forms.{Form, LayoutCommand, BundleCommand, layout, bundle, check, text, show, print, form_of}
 use Rattle.dbg_command.specs.Stops.{line, number_line, numbers_line, count_word, breach_line}
-use Rattle.dbg_command.specs.Answers.{Ending, Refuses, Puts, WithinLimit, WithFile, OfSnapshot, WithSnapshot, OfText, honesty_text, OfCheck, OfLawful, OfLaws, OfSet, OfRead, OfBytes, OfForm}
+use Rattle.dbg_command.specs.Answers.{Ending, Refuses, Puts, WithinLimit, WithFile, OfSnapshot, WithSnapshot, OfText, honesty_text, OfCheck, OfLawful, OfLaws, OfSet, OfRead, OfLayout, OfDescribed, OfSections, OfBundle, OfForm}
 use Rattle.dbg_command.specs.OneEnding.{OneEnding}
-use Rattle.dbg_command.proofs.OneReading.{OneBreach, one_layout, one_snapshot, one_check}
+use Rattle.dbg_command.proofs.OneReading.{OneBreach, one_layout, one_snapshot, one_bundle, one_check}
 use Rattle.dbg_command.proofs.OnePrint.{one_print}
 
 -- the theorems of the crates below, on which it rests
@@ -31,6 +35,7 @@ pub record Below : Type 0 where
   pub one_snapshot : OneSnapshot
   pub snapshot_spelled : snapshots.HaveNoFault
   pub snapshot_fault : snapshots.HaveOneFault
+  pub one_bundle : bundles.HaveOneReading
   pub one_value : OneValue
   pub one_breach : (set : Set) → OneBreach set (laws set)
 
@@ -68,36 +73,55 @@ of_check set s t o p m n h g =
     let same : g.0 ≡ h.0 = one_answer g.0 h.0 g.1 h.1 in
     puts (honesty_text h.0) s t o p m n h.2 (subst (λ honest. Puts (honesty_text honest) t p n) same g.2)
 
-of_lawful : Below → (form : Form) (files : Files) (set : Set) → IsOne (OfLawful form files set)
-of_lawful B (check layout) files set = of_check set
-of_lawful B (text layout snapshot depth width) files set = with_file snapshot 67108864 (WithSnapshot set depth width) (file files snapshot) (with_snapshot B set depth width)
+of_text : Below → (set : Set) (depth width : ℕ) (snapshot : List ℕ) (files : Files) → IsOne (OfText set depth width snapshot files)
+of_text B set depth width snapshot files = with_file snapshot 67108864 (WithSnapshot set depth width) (file files snapshot) (with_snapshot B set depth width)
 
-of_laws : Below → (form : Form) (files : Files) (set : Set) (r : Result (Unit {0}) CheckErr) → IsOne (OfLaws form files set r)
-of_laws B form files set (Ok u) s t o p m n h g = of_lawful B form files set s t o p m n h g
-of_laws B form files set (Err (checks.Breach law at)) s t o p m n h g = refuses 1 (breach_line law at) s t o p m n h g
-of_laws B form files set (Err checks.Memory) s t o p m n h g = absurd h
+of_lawful : Below → (command : LayoutCommand) (files : Files) (set : Set) → IsOne (OfLawful command files set)
+of_lawful B check files set = of_check set
+of_lawful B (text p) files set = of_text B set p.depth p.width p.snapshot files
 
-of_set : Below → (form : Form) (files : Files) (set : Set) → IsOne (OfSet form files set)
-of_set B form files set s t o p m n h g =
+of_laws : Below → (command : LayoutCommand) (files : Files) (set : Set) (r : Result (Unit {0}) CheckErr) → IsOne (OfLaws command files set r)
+of_laws B command files set (Ok u) s t o p m n h g = of_lawful B command files set s t o p m n h g
+of_laws B command files set (Err (checks.Breach law at)) s t o p m n h g = refuses 1 (breach_line law at) s t o p m n h g
+of_laws B command files set (Err checks.Memory) s t o p m n h g = absurd h
+
+of_set : Below → (command : LayoutCommand) (files : Files) (set : Set) → IsOne (OfSet command files set)
+of_set B command files set s t o p m n h g =
     let same : g.0 ≡ h.0 = one_check set (laws set) (B.one_breach set) g.0 h.0 g.1 h.1
-    (λ e. subst (λ r. OfLaws form files set r t p n) e g.2) (λ e. subst (λ r. OfLaws form files set r s o m) e h.2) in
-    of_laws B form files set h.0 s t o p m n h.2 (subst (λ r. OfLaws form files set r t p n) same g.2)
+    (λ e. subst (λ r. OfLaws command files set r t p n) e g.2) (λ e. subst (λ r. OfLaws command files set r s o m) e h.2) in
+    of_laws B command files set h.0 s t o p m n h.2 (subst (λ r. OfLaws command files set r t p n) same g.2)
 
-of_read : Below → (form : Form) (files : Files) (r : Result Set LayoutErr) → IsOne (OfRead form files r)
-of_read B form files (Ok set) s t o p m n h g = of_set B form files set s t o p m n h g
-of_read B form files (Err (layout_errs.BadLine l rule)) s t o p m n h g = refuses 1 _ s t o p m n h g
-of_read B form files (Err (layout_errs.Limit which)) s t o p m n h g = refuses 1 _ s t o p m n h g
-of_read B form files (Err layout_errs.Memory) s t o p m n h g = absurd h
+of_read : Below → (command : LayoutCommand) (files : Files) (r : Result Set LayoutErr) → IsOne (OfRead command files r)
+of_read B command files (Ok set) s t o p m n h g = of_set B command files set s t o p m n h g
+of_read B command files (Err (layout_errs.BadLine l rule)) s t o p m n h g = refuses 1 _ s t o p m n h g
+of_read B command files (Err (layout_errs.Limit which)) s t o p m n h g = refuses 1 _ s t o p m n h g
+of_read B command files (Err layout_errs.Memory) s t o p m n h g = absurd h
 
-of_bytes : Below → (form : Form) (files : Files) (bytes : List ℕ) → IsOne (OfBytes form files bytes)
-of_bytes B form files bytes s t o p m n h g =
+of_layout : Below → (command : LayoutCommand) (files : Files) (bytes : List ℕ) → IsOne (OfLayout command files bytes)
+of_layout B command files bytes s t o p m n h g =
     let same : g.0 ≡ h.0 = one_layout B.one_set B.layout_spelled B.layout_fault bytes g.0 h.0 g.1 h.1
-    (λ e. subst (λ r. OfRead form files r t p n) e g.2) (λ e. subst (λ r. OfRead form files r s o m) e h.2) in
-    of_read B form files h.0 s t o p m n h.2 (subst (λ r. OfRead form files r t p n) same g.2)
+    (λ e. subst (λ r. OfRead command files r t p n) e g.2) (λ e. subst (λ r. OfRead command files r s o m) e h.2) in
+    of_read B command files h.0 s t o p m n h.2 (subst (λ r. OfRead command files r t p n) same g.2)
+
+of_described : Below → (command : BundleCommand) (files : Files) (set : Set) → IsOne (OfDescribed command files set)
+of_described B show files set = puts (layout_text set)
+of_described B (print p) files set = of_text B set p.depth p.width p.snapshot files
+
+of_sections : Below → (command : BundleCommand) (files : Files) (r : Result Set ReadErr) → IsOne (OfSections command files r)
+of_sections B command files (Ok set) s t o p m n h g = of_described B command files set s t o p m n h g
+of_sections B command files (Err (refusals.Refused refusal)) s t o p m n h g = refuses 1 _ s t o p m n h g
+of_sections B command files (Err refusals.Memory) s t o p m n h g = absurd h
+
+of_bundle : Below → (command : BundleCommand) (files : Files) (bytes : List ℕ) → IsOne (OfBundle command files bytes)
+of_bundle B command files bytes s t o p m n h g =
+    let same : g.0 ≡ h.0 = one_bundle B.one_bundle bytes g.0 h.0 g.1 h.1
+    (λ e. subst (λ r. OfSections command files r t p n) e g.2) (λ e. subst (λ r. OfSections command files r s o m) e h.2) in
+    of_sections B command files h.0 s t o p m n h.2 (subst (λ r. OfSections command files r t p n) same g.2)
 
 of_form : Below → (form : Option Form) (files : Files) → IsOne (OfForm form files)
 of_form B None files = refuses 2 (line (codes "rdbg: usage") [])
-of_form B (Some form) files = with_file (layout_name form) 16777216 (OfBytes form files) (file files (layout_name form)) (of_bytes B form files)
+of_form B (Some (layout name command)) files = with_file name 16777216 (OfLayout command files) (file files name) (of_layout B command files)
+of_form B (Some (bundle name command)) files = with_file name 536870912 (OfBundle command files) (file files name) (of_bundle B command files)
 
 pub one_ending : Below → OneEnding
 one_ending B words files s t o p m n h g = of_form B (form_of words) files s t o p m n h g

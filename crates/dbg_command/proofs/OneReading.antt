@@ -1,4 +1,4 @@
--- Each layout file and each snapshot file has one reading, and a set has one first breach.
+-- Each layout file, each bundle and each snapshot file has one reading, and a set has one first breach.
 use Rattle.std.proofs.Common.{◌≡◌, ℕ, List, Result, Ok, Err, refl, ap, ap₂}
 use Rattle.layout_set.specs.declared.set.Set.{Set}
 use Rattle.layout_set.specs.declared.breach.Item.{Item}
@@ -8,6 +8,9 @@ use Rattle.layout_set.specs.FirstBreach.{Numbered, IsFirstBreach, Checked}
 use Rattle.layout_reader.specs.declared.layout_err.LayoutErr.{LayoutErr}
 use Rattle.layout_reader.specs.declared.layout_err.LayoutErr.TheVariants as layout_errs
 use Rattle.layout_file.specs.Claims as layouts
+use Rattle.layout_set.specs.declared.refusal.ReadErr.{ReadErr}
+use Rattle.layout_set.specs.declared.refusal.ReadErr.TheVariants as refusals
+use Rattle.bundle_reader.specs.Readings as bundles
 use Rattle.snapshot_file.specs.declared.snapshot.Snapshot.{Snapshot}
 use Rattle.snapshot_file.specs.declared.fault.SnapErr.{SnapErr}
 use Rattle.snapshot_file.specs.declared.fault.SnapErr.TheVariants as snap_errs
@@ -29,6 +32,17 @@ one_snapshot snapshot spelled fault bytes (Ok a) (Ok b) h g p q = ap Ok (snapsho
 one_snapshot snapshot spelled fault bytes (Ok a) (Err e) h g p q = absurd (q (ap Err (spelled a bytes e h g)))
 one_snapshot snapshot spelled fault bytes (Err e) (Ok b) h g p q = absurd (p (ap Err (spelled b bytes e g h)))
 one_snapshot snapshot spelled fault bytes (Err e) (Err f) h g p q = ap Err (fault bytes e f h g (λ m. p (ap Err m)) (λ m. q (ap Err m)))
+
+-- a bundle has one reading, out of memory aside
+pub one_bundle : bundles.HaveOneReading → (bytes : List ℕ) (r t : Result Set ReadErr)
+    → bundles.IsReading bytes r → bundles.IsReading bytes t → (r ≡ Err refusals.Memory → ⊥) → (t ≡ Err refusals.Memory → ⊥) → r ≡ t
+one_bundle one bytes (Ok a) (Ok b) h g p q = ap Ok (one.one_set bytes a b h g)
+one_bundle one bytes (Ok a) (Err (refusals.Refused r)) h g p q = absurd (one.never_both bytes a r h g)
+one_bundle one bytes (Err (refusals.Refused r)) (Ok b) h g p q = absurd (one.never_both bytes b r g h)
+one_bundle one bytes (Err (refusals.Refused r)) (Err (refusals.Refused t)) h g p q = ap (λ x. Err (refusals.Refused x)) (one.one_error bytes r t h g)
+one_bundle one bytes (Err refusals.Memory) t h g p q = absurd (p refl)
+one_bundle one bytes (Ok a) (Err refusals.Memory) h g p q = absurd (q refl)
+one_bundle one bytes (Err (refusals.Refused r)) (Err refusals.Memory) h g p q = absurd (q refl)
 
 -- a row of laws has at most one first breach
 abbrev pub OneBreach : Set → List Numbered → Type 0

@@ -1,5 +1,6 @@
 -- Texts that are put one after the other.
-use Rattle.std.proofs.Common.{◌≡◌, ◌∙◌, sym, ap, subst, inl, inr, ℕ, ◌+◌, ◌<◌, ◌≤◌, List, [], ◌++◌, length, drop, get_or, append_assoc, Option, arith}
+use Rattle.std.proofs.Common.{◌≡◌, ◌∙◌, sym, ap, subst, inl, inr, ℕ, ◌+◌, ◌<◌, ◌≤◌, List, [], ◌∷◌, ◌++◌, length, drop, get_or, append_assoc, Option, arith}
+use Rattle.std.specs.List.{concat}
 use Rattle.std.specs.Borrow.{Bor}
 use Rattle.std.specs.Io.KnownBytes.{Appends}
 use Rattle.std.proofs.lemmas.List.{append-nil, get_or_default}
@@ -36,3 +37,10 @@ pub put_whole : (parts : List (Bor (List ℕ))) (i : ℕ) (old new : Option (Lis
 put_whole parts i old new before now past p =
     let none : joined (drop i parts) ≡ [] = ap joined (drop_of_length-le parts past) in
     inl (subst (Appends old new) (sym (append-nil p.done) ∙ ap (λ t. p.done ++ t) (sym none) ∙ p.split) p.put)
+
+-- seven parts, one after the other
+pub seven : (a b c d e f g : List ℕ) → concat (a ∷ b ∷ c ∷ d ∷ e ∷ f ∷ g ∷ []) ≡ a ++ b ++ c ++ d ++ e ++ f ++ g
+seven a b c d e f g =
+    sym (append_assoc a b (c ++ (d ++ (e ++ (f ++ (g ++ [])))))) ∙ sym (append_assoc (a ++ b) c (d ++ (e ++ (f ++ (g ++ [])))))
+    ∙ sym (append_assoc (a ++ b ++ c) d (e ++ (f ++ (g ++ [])))) ∙ sym (append_assoc (a ++ b ++ c ++ d) e (f ++ (g ++ [])))
+    ∙ sym (append_assoc (a ++ b ++ c ++ d ++ e) f (g ++ [])) ∙ ap (λ t. (a ++ b ++ c ++ d ++ e ++ f) ++ t) (append-nil g)

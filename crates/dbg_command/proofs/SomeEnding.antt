@@ -14,15 +14,12 @@ use Rattle.layout_set.specs.declared.func.Var.{Var}
 use Rattle.layout_set.specs.declared.set.Set.{Set}
 use Rattle.layout_set.specs.declared.set.Static.{Static}
 use Rattle.layout_set.specs.declared.set.TypeRef.{TypeRef}
-use Rattle.layout_set.specs.declared.breach.Item.{Item}
-use Rattle.layout_set.specs.declared.breach.Item.TheVariants as items
 use Rattle.layout_set.specs.declared.breach.CheckErr.{CheckErr}
 use Rattle.layout_set.specs.declared.breach.CheckErr.TheVariants as checks
 use Rattle.layout_values.specs.declared.outcome.Outcome.{Outcome}
 use Rattle.layout_values.specs.declared.outcome.Outcome.TheVariants.{Value, Unavailable, Invalid, TooLarge}
 use Rattle.layout_values.specs.Contexts.{Items, Context, context_of}
-use Rattle.layout_set.specs.FirstBreach.{IsItem, Precedes, Numbered, Law, Holds, Fails, Checked, law_of, named}
-use Rattle.layout_set.proofs.Firsts.{there_is}
+use Rattle.layout_model.proofs.Decided.{Never, checked, decided}
 use Rattle.layout_set.specs.Laws.{laws}
 use Rattle.layout_honest.specs.Honest.{IsHonest}
 use Rattle.layout_values.specs.Images.{IsImage}
@@ -33,117 +30,14 @@ use Rattle.layout_set.specs.Sizes.{size}
 use Rattle.layout_reader.specs.declared.layout_err.LayoutErr.{LayoutErr}
 use Rattle.layout_reader.specs.declared.layout_err.LayoutErr.TheVariants as layout_errs
 use Rattle.layout_file.specs.Claims as layouts
-use Rattle.dbg_command.specs.Forms.{Form, check, text, form_of, layout_name}
+use Rattle.layout_set.specs.declared.refusal.ReadErr.{ReadErr}
+use Rattle.layout_set.specs.declared.refusal.ReadErr.TheVariants as refusals
+use Rattle.bundle_reader.specs.Readings as bundles
+use Rattle.dbg_command.specs.Forms.{Form, LayoutCommand, BundleCommand, layout, bundle, check, text, show, print, form_of}
 use Rattle.layout_values.specs.Shown.{IsShownAt, IsShownIn}
 use Rattle.dbg_command.specs.Lines.{IsStaticLine, IsVarLine, AreVarLines, IsFuncText, AreEach, Prints, static_line, var_line, func_line, pc_line, is_entered, is_called}
-use Rattle.dbg_command.specs.Answers.{Ending, Refuses, Puts, WithinLimit, WithFile, OfSnapshot, WithSnapshot, OfText, honesty_text, OfCheck, OfLawful, OfLaws, OfSet, OfRead, OfBytes, OfForm}
+use Rattle.dbg_command.specs.Answers.{Ending, Refuses, Puts, WithinLimit, WithFile, OfSnapshot, WithSnapshot, OfText, honesty_text, OfCheck, OfLawful, OfLaws, OfSet, OfRead, OfLayout, OfDescribed, OfSections, OfBundle, OfForm}
 use Rattle.dbg_command.specs.OneEnding.{SomeEnding}
-
--- it is impossible that there is none
-abbrev Never : Type 0 → Type 0
-Never A = (A → ⊥) → ⊥
-
--- one of a claim and its denial
-decided : (A : Type 0) → Never (A ⊎ (A → ⊥))
-decided A deny = deny (inr (λ a. deny (inl a)))
-
--- either all below n hold, or one is the first that doesn't
-abbrev FirstBelow : (ℕ → Type 0) → ℕ → Type 0
-FirstBelow P n = (i : ℕ) × (i < n) × (P i → ⊥) × ((j : ℕ) → j < i → P j)
-
-below : (P : ℕ → Type 0) (n i : ℕ) → i ≡ n → ((j : ℕ) → j < i → P j) → P i → (j : ℕ) → j < suc n → P j
-below P n i e all one j h = elim (cases_lt j i) as (λ _. P j) [
-  | inl l ↦ all j l
-  | inr g ↦ subst P (let same : i ≡ j = omega (arith, h, g, e) in same) one
-]
-
-first_below : (P : ℕ → Type 0) (n : ℕ) → Never (((j : ℕ) → j < n → P j) ⊎ FirstBelow P n)
-first_below P zero deny = deny (inl (λ j h. absurd (omega (arith, h))))
-first_below P (suc n) deny = first_below P n (λ found. elim found as (λ _. ⊥) [
-  | inl all ↦ decided (P n) (λ d. elim d as (λ _. ⊥) [
-    | inl p ↦ deny (inl (below P n n refl all p))
-    | inr q ↦ deny (inr (n, (let l : n < suc n = omega arith in l), q, all))
-  ])
-  | inr f ↦ deny (inr (f.0, (let l : f.0 < suc n = omega (arith, f.1) in l), f.2, f.3))
-])
-
--- a law holds, or fails first at some item
-holds_or_fails : (set : Set) (law : Law) → Never (Holds set law ⊎ ((x : Item) × Fails set law x))
-holds_or_fails set law deny = decided (law items.Whole) (λ w. elim w as (λ _. ⊥) [
-  | inr broken ↦ deny (inr (items.Whole, record { is = tt; broken = broken; earlier = before_whole }))
-  | inl whole ↦ first_below (λ i. law (items.Def i)) (length set.types) (λ d. elim d as (λ _. ⊥) [
-    | inr f ↦ deny (inr (items.Def f.0, record { is = f.1; broken = f.2; earlier = before_def whole f.0 f.3 }))
-    | inl defs ↦ first_below (λ i. law (items.Static i)) (length set.statics) (λ s. elim s as (λ _. ⊥) [
-      | inr f ↦ deny (inr (items.Static f.0, record { is = f.1; broken = f.2; earlier = before_static whole defs f.0 f.3 }))
-      | inl statics ↦ first_below (λ i. law (items.Func i)) (length set.funcs) (λ u. elim u as (λ _. ⊥) [
-        | inr f ↦ deny (inr (items.Func f.0, record { is = f.1; broken = f.2; earlier = before_func whole defs statics f.0 f.3 }))
-        | inl funcs ↦ deny (inl (all whole defs statics funcs))
-      ])
-    ])
-  ])
-])
-  where
-    before_whole : (x : Item) → IsItem set x → Precedes x items.Whole → law x
-    before_whole items.Whole is h = elim h [ ]
-    before_whole (items.Def i) is h = elim h [ ]
-    before_whole (items.Static i) is h = elim h [ ]
-    before_whole (items.Func i) is h = elim h [ ]
-
-    before_def : law items.Whole → (i : ℕ) → ((j : ℕ) → j < i → law (items.Def j)) → (x : Item) → IsItem set x → Precedes x (items.Def i) → law x
-    before_def whole i less items.Whole is h = whole
-    before_def whole i less (items.Def j) is h = less j h
-    before_def whole i less (items.Static j) is h = elim h [ ]
-    before_def whole i less (items.Func j) is h = elim h [ ]
-
-    before_static : law items.Whole → ((j : ℕ) → j < length set.types → law (items.Def j)) → (i : ℕ) → ((j : ℕ) → j < i → law (items.Static j)) → (x : Item) → IsItem set x → Precedes x (items.Static i) → law x
-    before_static whole defs i less items.Whole is h = whole
-    before_static whole defs i less (items.Def j) is h = defs j is
-    before_static whole defs i less (items.Static j) is h = less j h
-    before_static whole defs i less (items.Func j) is h = elim h [ ]
-
-    before_func : law items.Whole → ((j : ℕ) → j < length set.types → law (items.Def j)) → ((j : ℕ) → j < length set.statics → law (items.Static j)) → (i : ℕ) → ((j : ℕ) → j < i → law (items.Func j)) → (x : Item) → IsItem set x → Precedes x (items.Func i) → law x
-    before_func whole defs statics i less items.Whole is h = whole
-    before_func whole defs statics i less (items.Def j) is h = defs j is
-    before_func whole defs statics i less (items.Static j) is h = statics j is
-    before_func whole defs statics i less (items.Func j) is h = less j h
-
-    all : law items.Whole → ((j : ℕ) → j < length set.types → law (items.Def j)) → ((j : ℕ) → j < length set.statics → law (items.Static j)) → ((j : ℕ) → j < length set.funcs → law (items.Func j)) → Holds set law
-    all whole defs statics funcs items.Whole is = whole
-    all whole defs statics funcs (items.Def j) is = defs j is
-    all whole defs statics funcs (items.Static j) is = statics j is
-    all whole defs statics funcs (items.Func j) is = funcs j is
-
--- a number above those of a row
-top : List Numbered → ℕ
-top [] = 0
-top (l ∷ row) = max (l.number + 1) (top row)
-
--- from there on there is nothing to break
-past : (set : Set) (row : List Numbered) (n : ℕ) → top row ≤ n → Holds set (law_of row n)
-unfolding top
-past set [] n h = λ x is. tt
-past set (l ∷ row) n h =
-    let other : l.number ≡ n → ⊥ = λ e. omega (arith, e, h) in
-    subst (Holds set) (there_is l row n other) (past set row n (omega (arith, h)))
-
-within_row : (set : Set) (row : List Numbered) → ((n : ℕ) → n < top row → Holds set (law_of row n)) → (n : ℕ) → Holds set (law_of row n)
-within_row set row all n = elim (cases_lt n (top row)) as (λ _. Holds set (law_of row n)) [ inl l ↦ all n l | inr g ↦ past set row n g ]
-
--- memory did not run out
-abbrev IsKnown : Result (Unit {0}) CheckErr → Type 0
-IsKnown (Ok t) = Unit {0}
-IsKnown (Err (checks.Breach law at)) = Unit {0}
-IsKnown (Err checks.Memory) = ⊥
-
--- a set keeps a row of laws, or has a first breach
-checked : (set : Set) (row : List Numbered) → Never ((r : Result (Unit {0}) CheckErr) × Checked set row r × (r ≡ Err checks.Memory → ⊥))
-checked set row deny = first_below (λ n. Holds set (law_of row n)) (top row) (λ found. elim found as (λ _. ⊥) [
-  | inl all ↦ deny (Ok tt, within_row set row all, λ e. subst IsKnown e tt)
-  | inr f ↦ holds_or_fails set (law_of row f.0) (λ h. elim h as (λ _. ⊥) [
-    | inl holds ↦ f.2 holds
-    | inr at ↦ deny (Err (checks.Breach f.0 (named at.0)), record { lower = f.3; fails = (at.0, (at.1, refl)) }, λ e. subst IsKnown e tt)
-  ])
-])
 
 -- a part has an outcome
 outcome : (c : Context) (depth : ℕ) (ty : TypeRef) (p : Items) → Never ((o : Outcome) × IsOutcome c depth ty p o)
@@ -210,7 +104,7 @@ of_snapshot set depth width (Err (snap_errs.BadLine l rule)) known deny = deny 1
 of_snapshot set depth width (Err (snap_errs.Overlap l)) known deny = deny 1 [] _ (refl, refl, refl)
 of_snapshot set depth width (Err snap_errs.Memory) known deny = known refl
 
-module _ (layout_read : layouts.HaveReading) (snapshot_read : snapshots.HaveReading) where
+module _ (layout_read : layouts.HaveReading) (snapshot_read : snapshots.HaveReading) (bundle_read : bundles.HaveReading) where
   with_snapshot : (set : Set) (depth width : ℕ) (bytes : List ℕ) → Ends (WithSnapshot set depth width bytes)
   with_snapshot set depth width bytes deny =
       let r = snapshot_read bytes in
@@ -225,32 +119,45 @@ module _ (layout_read : layouts.HaveReading) (snapshot_read : snapshots.HaveRead
       no_false : false ≡ true → ⊥
       no_false e = grind (arith, e)
 
-  of_lawful : (form : Form) (files : Files) (set : Set) → Ends (OfLawful form files set)
-  of_lawful (check layout) files set = of_check set
-  of_lawful (text layout snapshot depth width) files set = with_file snapshot 67108864 (WithSnapshot set depth width) (file files snapshot) (with_snapshot set depth width)
+  of_lawful : (command : LayoutCommand) (files : Files) (set : Set) → Ends (OfLawful command files set)
+  of_lawful check files set = of_check set
+  of_lawful (text p) files set = with_file p.snapshot 67108864 (WithSnapshot set p.depth p.width) (file files p.snapshot) (with_snapshot set p.depth p.width)
 
-  of_laws : (form : Form) (files : Files) (set : Set) (r : Result (Unit {0}) CheckErr) → (r ≡ Err checks.Memory → ⊥) → Ends (OfLaws form files set r)
-  of_laws form files set (Ok u) known deny = of_lawful form files set deny
-  of_laws form files set (Err (checks.Breach law at)) known deny = deny 1 [] _ (refl, refl, refl)
-  of_laws form files set (Err checks.Memory) known deny = known refl
+  of_laws : (command : LayoutCommand) (files : Files) (set : Set) (r : Result (Unit {0}) CheckErr) → (r ≡ Err checks.Memory → ⊥) → Ends (OfLaws command files set r)
+  of_laws command files set (Ok u) known deny = of_lawful command files set deny
+  of_laws command files set (Err (checks.Breach law at)) known deny = deny 1 [] _ (refl, refl, refl)
+  of_laws command files set (Err checks.Memory) known deny = known refl
 
-  of_set : (form : Form) (files : Files) (set : Set) → Ends (OfSet form files set)
-  of_set form files set deny = checked set (laws set) (λ r. of_laws form files set r.0 r.2 (λ s o m e. deny s o m (r.0, r.1, e)))
+  of_set : (command : LayoutCommand) (files : Files) (set : Set) → Ends (OfSet command files set)
+  of_set command files set deny = checked set (laws set) (λ r. of_laws command files set r.0 r.2 (λ s o m e. deny s o m (r.0, r.1, e)))
 
-  of_read : (form : Form) (files : Files) (r : Result Set LayoutErr) → (r ≡ Err layout_errs.Memory → ⊥) → Ends (OfRead form files r)
-  of_read form files (Ok set) known deny = of_set form files set deny
-  of_read form files (Err (layout_errs.BadLine l rule)) known deny = deny 1 [] _ (refl, refl, refl)
-  of_read form files (Err (layout_errs.Limit which)) known deny = deny 1 [] _ (refl, refl, refl)
-  of_read form files (Err layout_errs.Memory) known deny = known refl
+  of_read : (command : LayoutCommand) (files : Files) (r : Result Set LayoutErr) → (r ≡ Err layout_errs.Memory → ⊥) → Ends (OfRead command files r)
+  of_read command files (Ok set) known deny = of_set command files set deny
+  of_read command files (Err (layout_errs.BadLine l rule)) known deny = deny 1 [] _ (refl, refl, refl)
+  of_read command files (Err (layout_errs.Limit which)) known deny = deny 1 [] _ (refl, refl, refl)
+  of_read command files (Err layout_errs.Memory) known deny = known refl
 
-  of_bytes : (form : Form) (files : Files) (bytes : List ℕ) → Ends (OfBytes form files bytes)
-  of_bytes form files bytes deny =
+  of_layout : (command : LayoutCommand) (files : Files) (bytes : List ℕ) → Ends (OfLayout command files bytes)
+  of_layout command files bytes deny =
       let r = layout_read bytes in
-      of_read form files r.0 r.1.0 (λ s o m e. deny s o m (r.0, r.1.1, e))
+      of_read command files r.0 r.1.0 (λ s o m e. deny s o m (r.0, r.1.1, e))
+
+  of_described : (command : BundleCommand) (files : Files) (set : Set) → Ends (OfDescribed command files set)
+  of_described show files set deny = deny 0 _ [] (refl, refl, refl)
+  of_described (print p) files set deny = with_file p.snapshot 67108864 (WithSnapshot set p.depth p.width) (file files p.snapshot) (with_snapshot set p.depth p.width) deny
+
+  of_sections : (command : BundleCommand) (files : Files) (r : Result Set ReadErr) → (r ≡ Err refusals.Memory → ⊥) → Ends (OfSections command files r)
+  of_sections command files (Ok set) known deny = of_described command files set deny
+  of_sections command files (Err (refusals.Refused refusal)) known deny = deny 1 [] _ (refl, refl, refl)
+  of_sections command files (Err refusals.Memory) known deny = known refl
+
+  of_bundle : (command : BundleCommand) (files : Files) (bytes : List ℕ) → Ends (OfBundle command files bytes)
+  of_bundle command files bytes deny = bundle_read bytes (λ r known is. of_sections command files r known (λ s o m e. deny s o m (r, is, e)))
 
   of_form : (form : Option Form) (files : Files) → Ends (OfForm form files)
   of_form None files deny = deny 2 [] _ (refl, refl, refl)
-  of_form (Some form) files deny = with_file (layout_name form) 16777216 (OfBytes form files) (file files (layout_name form)) (of_bytes form files) deny
+  of_form (Some (layout name command)) files deny = with_file name 16777216 (OfLayout command files) (file files name) (of_layout command files) deny
+  of_form (Some (bundle name command)) files deny = with_file name 536870912 (OfBundle command files) (file files name) (of_bundle command files) deny
 
   pub some_ending : SomeEnding
   some_ending words files deny = of_form (form_of words) files deny

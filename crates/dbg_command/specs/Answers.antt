@@ -15,8 +15,12 @@ use Rattle.snapshot_file.specs.declared.snapshot.Snapshot.{Snapshot}
 use Rattle.snapshot_file.specs.declared.fault.SnapErr.{SnapErr}
 use Rattle.snapshot_file.specs.declared.fault.SnapErr.TheVariants as snaps
 use Rattle.snapshot_file.specs.Claims as snapshots
-use Rattle.dbg_command.specs.Forms.{Form, check, text, form_of, layout_name}
-use Rattle.dbg_command.specs.Stops.{line, number_line, numbers_line, count_word, breach_line}
+use Rattle.layout_lines.specs.Sets.{layout_text}
+use Rattle.layout_set.specs.declared.refusal.ReadErr.{ReadErr}
+use Rattle.layout_set.specs.declared.refusal.ReadErr.TheVariants as refusals
+use Rattle.bundle_reader.specs.Readings as bundles
+use Rattle.dbg_command.specs.Forms.{Form, LayoutCommand, BundleCommand, layout, bundle, check, text, show, print, form_of}
+use Rattle.dbg_command.specs.Stops.{line, number_line, numbers_line, count_word, breach_line, outside_line}
 use Rattle.dbg_command.specs.Lines.{Prints}
 
 -- a status, an output and a message
@@ -69,35 +73,51 @@ abbrev pub OfCheck : Set → Ending
 OfCheck set status output message = (honest : Bool) × Decides honest (IsHonest set) × Puts (honesty_text honest) status output message
 
 -- what is answered of a lawful set
-abbrev pub OfLawful : Form → Files → Set → Ending
-OfLawful (check layout) files set = OfCheck set
-OfLawful (text layout snapshot depth width) files set = OfText set depth width snapshot files
+abbrev pub OfLawful : LayoutCommand → Files → Set → Ending
+OfLawful check files set = OfCheck set
+OfLawful (text p) files set = OfText set p.depth p.width p.snapshot files
 
 -- the set is lawful, or its first breach is told
-abbrev pub OfLaws : Form → Files → Set → Result (Unit {0}) CheckErr → Ending
-OfLaws form files set (Ok t) status output message = OfLawful form files set status output message
-OfLaws form files set (Err (checks.Breach law at)) status output message = Refuses 1 (breach_line law at) status output message
-OfLaws form files set (Err checks.Memory) status output message = ⊥
+abbrev pub OfLaws : LayoutCommand → Files → Set → Result (Unit {0}) CheckErr → Ending
+OfLaws command files set (Ok t) status output message = OfLawful command files set status output message
+OfLaws command files set (Err (checks.Breach law at)) status output message = Refuses 1 (breach_line law at) status output message
+OfLaws command files set (Err checks.Memory) status output message = ⊥
 
--- the set of the first file
-abbrev pub OfSet : Form → Files → Set → Ending
-OfSet form files set status output message = (r : Result (Unit {0}) CheckErr) × Checked set (laws set) r × OfLaws form files set r status output message
+-- the set of a layout
+abbrev pub OfSet : LayoutCommand → Files → Set → Ending
+OfSet command files set status output message = (r : Result (Unit {0}) CheckErr) × Checked set (laws set) r × OfLaws command files set r status output message
 
--- the first file spells a set, or its first fault is told
-abbrev pub OfRead : Form → Files → Result Set LayoutErr → Ending
-OfRead form files (Ok set) status output message = OfSet form files set status output message
-OfRead form files (Err (layouts.BadLine n rule)) status output message = Refuses 1 (numbers_line (codes "rdbg: layout line ") n (codes " rule ") rule) status output message
-OfRead form files (Err (layouts.Limit which)) status output message = Refuses 1 (line (codes "rdbg: layout limit ") (count_word which)) status output message
-OfRead form files (Err layouts.Memory) status output message = ⊥
+-- the file spells a set, or its first fault is told
+abbrev pub OfRead : LayoutCommand → Files → Result Set LayoutErr → Ending
+OfRead command files (Ok set) status output message = OfSet command files set status output message
+OfRead command files (Err (layouts.BadLine n rule)) status output message = Refuses 1 (numbers_line (codes "rdbg: layout line ") n (codes " rule ") rule) status output message
+OfRead command files (Err (layouts.Limit which)) status output message = Refuses 1 (line (codes "rdbg: layout limit ") (count_word which)) status output message
+OfRead command files (Err layouts.Memory) status output message = ⊥
 
--- the bytes of the first file
-abbrev pub OfBytes : Form → Files → List ℕ → Ending
-OfBytes form files bytes status output message = (r : Result Set LayoutErr) × IsReading bytes r × OfRead form files r status output message
+-- the bytes of a layout
+abbrev pub OfLayout : LayoutCommand → Files → List ℕ → Ending
+OfLayout command files bytes status output message = (r : Result Set LayoutErr) × IsReading bytes r × OfRead command files r status output message
 
--- the first file has at most 16 MiB
+-- what is answered of the set that a bundle describes; it is sound, and no more is asked of it
+abbrev pub OfDescribed : BundleCommand → Files → Set → Ending
+OfDescribed show files set = Puts (layout_text set)
+OfDescribed (print p) files set = OfText set p.depth p.width p.snapshot files
+
+-- the bundle describes a set, or the first rule that it breaks is told
+abbrev pub OfSections : BundleCommand → Files → Result Set ReadErr → Ending
+OfSections command files (Ok set) status output message = OfDescribed command files set status output message
+OfSections command files (Err (refusals.Refused refusal)) status output message = Refuses 1 (outside_line refusal) status output message
+OfSections command files (Err refusals.Memory) status output message = ⊥
+
+-- the bytes of a bundle
+abbrev pub OfBundle : BundleCommand → Files → List ℕ → Ending
+OfBundle command files bytes status output message = (r : Result Set ReadErr) × bundles.IsReading bytes r × OfSections command files r status output message
+
+-- a layout has at most 16 MiB, a bundle 512 MiB
 abbrev pub OfForm : Option Form → Files → Ending
 OfForm None files = Refuses 2 (line (codes "rdbg: usage") [])
-OfForm (Some form) files = WithFile (layout_name form) 16777216 (OfBytes form files) (file files (layout_name form))
+OfForm (Some (layout name command)) files = WithFile name 16777216 (OfLayout command files) (file files name)
+OfForm (Some (bundle name command)) files = WithFile name 536870912 (OfBundle command files) (file files name)
 
 abbrev pub Answers : List (List ℕ) → Files → Ending
 Answers words files = OfForm (form_of words) files

@@ -7,7 +7,8 @@ use Rattle.layout_set.specs.Laws.{IsLawful}
 use Rattle.layout_file.specs.Sets as layouts
 use Rattle.snapshot_file.specs.declared.snapshot.Snapshot.{Snapshot}
 use Rattle.snapshot_file.specs.Snapshots as snapshots
-use Rattle.dbg_command.specs.Forms.{Form, check, text, form_of}
+use Rattle.bundle_reader.specs.Readings.{DescribesSet}
+use Rattle.dbg_command.specs.Forms.{Form, LayoutCommand, BundleCommand, layout, bundle, check, text, show, print, form_of}
 use Rattle.dbg_command.specs.Answers.{Answers}
 use Rattle.dbg_command.specs.Runs.{Ends}
 
@@ -33,10 +34,23 @@ SpellsLawful bytes = (set : Set) × layouts.Spells set bytes × IsLawful set
 abbrev pub SpellsSnapshot : List ℕ → Type 0
 SpellsSnapshot bytes = (snapshot : Snapshot) × snapshots.Spells bytes snapshot
 
+-- the bytes are a bundle that describes a set
+abbrev pub IsDescription : List ℕ → Type 0
+IsDescription bytes = (set : Set) × DescribesSet bytes set
+
+-- the second file of the command, where it has one, is there, within its limit, and accepted
+abbrev pub IsLayoutAccepted : Files → LayoutCommand → Type 0
+IsLayoutAccepted files check = Unit {0}
+IsLayoutAccepted files (text p) = IsGiven files p.snapshot 67108864 SpellsSnapshot
+
+abbrev pub IsBundleAccepted : Files → BundleCommand → Type 0
+IsBundleAccepted files show = Unit {0}
+IsBundleAccepted files (print p) = IsGiven files p.snapshot 67108864 SpellsSnapshot
+
 -- each file of the command is there, within its limit, and accepted
 abbrev pub IsAccepted : Files → Form → Type 0
-IsAccepted files (check layout) = IsGiven files layout 16777216 SpellsLawful
-IsAccepted files (text layout snapshot depth width) = IsGiven files layout 16777216 SpellsLawful × IsGiven files snapshot 67108864 SpellsSnapshot
+IsAccepted files (layout name command) = IsGiven files name 16777216 SpellsLawful × IsLayoutAccepted files command
+IsAccepted files (bundle name command) = IsGiven files name 536870912 IsDescription × IsBundleAccepted files command
 
 -- on accepted files a run in which neither a read nor a write failed ends with 0, or out of memory
 abbrev pub AcceptedAreAnswered : Type 0

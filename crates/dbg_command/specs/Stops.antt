@@ -1,5 +1,7 @@
 -- The statuses and the messages of runs that end without an answer.
 use Rattle.std.specs.Prelude.{ℕ, List, [], ◌∷◌, ◌++◌, codes, decimal}
+use Rattle.layout_set.specs.declared.refusal.Refusal.{Refusal}
+use Rattle.layout_set.specs.declared.refusal.Section.{Section}
 use Rattle.layout_set.specs.declared.breach.Item.{Item}
 use Rattle.layout_set.specs.declared.breach.Item.TheVariants.{Whole, Def, Static, Func}
 use Rattle.layout_reader.specs.declared.layout_err.Count.{Count}
@@ -39,11 +41,30 @@ breach_line law (Def i) = numbers_line (codes "rdbg: breach law ") law (codes " 
 breach_line law (Static i) = numbers_line (codes "rdbg: breach law ") law (codes " at static ") i
 breach_line law (Func i) = numbers_line (codes "rdbg: breach law ") law (codes " at fn ") i
 
+-- a section by its name in an object file, or the bundle
+abbrev pub section_word : Section → List ℕ
+section_word Section.Abbrev = codes ".debug_abbrev"
+section_word Section.Info = codes ".debug_info"
+section_word Section.Str = codes ".debug_str"
+section_word Section.LineStr = codes ".debug_line_str"
+section_word Section.StrOffsets = codes ".debug_str_offsets"
+section_word Section.Addr = codes ".debug_addr"
+section_word Section.LocLists = codes ".debug_loclists"
+section_word Section.RngLists = codes ".debug_rnglists"
+section_word Section.DebugT = codes ".debug$T"
+section_word Section.DebugS = codes ".debug$S"
+section_word Section.Bundle = codes "bundle"
+
+-- the rule that is broken, and where
+abbrev pub outside_line : Refusal → List ℕ
+outside_line r = codes "rdbg: outside " ++ section_word r.section ++ codes " " ++ decimal r.offset ++ codes " rule " ++ decimal r.rule ++ 10 ∷ []
+
 abbrev pub message : Stop → List ℕ
 message stops.Usage = line (codes "rdbg: usage") []
 message (stops.LayoutLine n rule) = numbers_line (codes "rdbg: layout line ") n (codes " rule ") rule
 message (stops.LayoutLimit which) = line (codes "rdbg: layout limit ") (count_word which)
 message (stops.Breach law at) = breach_line law at
+message (stops.Outside refusal) = outside_line refusal
 message (stops.SnapshotLine n rule) = numbers_line (codes "rdbg: snapshot line ") n (codes " rule ") rule
 message (stops.SnapshotOverlap n) = number_line (codes "rdbg: snapshot overlap ") n []
 message (stops.CannotOpen name) = line (codes "rdbg: cannot open ") name.now

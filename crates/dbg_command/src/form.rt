@@ -2,7 +2,7 @@
 ghost use Rattle.std.specs.Prelude.{◌≡◌, ◌≤◌, Some, None, IfSome, if◌then◌else◌};
 ghost use Rattle.std.specs.Option.{option_map, option_copied};
 ghost use Rattle.std.specs.Str.{is_utf8};
-ghost use Rattle.dbg_command.specs.Forms.{form_of, check_form, text_form, long_form, number_from, layout_name, named, IsShallow};
+ghost use Rattle.dbg_command.specs.Forms.{form_of, file_form, printing_form, long_form, number_from, named, IsShallow};
 
 use readers::read_decimal;
 use rv_io::Text;
@@ -13,20 +13,40 @@ const DEPTH: u32 = 2;
 /// How many elements of a sequence are shown where no width is asked for.
 const WIDTH: u32 = 32;
 
-/// What is asked for, with the names of the files.
+/// What values are printed over, and how much of them.
+#[derive(Clone, Copy)]
+pub struct Printing<'a> {
+    /// The name of the snapshot.
+    pub snapshot: &'a str,
+    /// How deep references and boxes are followed: 0 to 4.
+    pub depth: u32,
+    /// How many elements of each sequence are shown at most: 1 to 256.
+    pub width: u32,
+}
+
+/// What is asked of a layout.
+#[derive(Clone, Copy)]
+pub enum LayoutCommand<'a> {
+    /// `check L`: whether the layout is lawful and honest.
+    Check,
+    /// `text L S`: the statics of the layout and its running functions over the snapshot.
+    Text(Printing<'a>),
+}
+
+/// What is asked of a bundle.
+#[derive(Clone, Copy)]
+pub enum BundleCommand<'a> {
+    /// `show B`: the layout text of the set that the bundle describes.
+    Show,
+    /// `print B S`: the statics of that set and its running functions over the snapshot.
+    Print(Printing<'a>),
+}
+
+/// What is asked for, with the name of the first file.
 #[derive(Clone, Copy)]
 pub enum Form<'a> {
-    /// `check L`: whether the layout is lawful and honest.
-    Check(&'a str),
-    /// `text L S`: the statics of the layout and its running functions over the snapshot.
-    Text {
-        layout: &'a str,
-        snapshot: &'a str,
-        /// How deep references and boxes are followed: 0 to 4.
-        depth: u32,
-        /// How many elements of each sequence are shown at most: 1 to 256.
-        width: u32,
-    },
+    Layout(&'a str, LayoutCommand<'a>),
+    Bundle(&'a str, BundleCommand<'a>),
 }
 
 /// The form of the words, if they have one.
@@ -35,17 +55,17 @@ pub fn form_of(words: &[Text]) -> Option<Form<'_>>
     ensures shallow { IfSome result (λ f. IsShallow (named f)) }
 {
     match words {
-        [command, layout] => check_form(command.as_bytes(), layout.as_bytes()),
-        [command, layout, snapshot] => text_form(
+        [command, name] => file_form(command.as_bytes(), name.as_bytes()),
+        [command, name, snapshot] => printing_form(
             command.as_bytes(),
-            layout.as_bytes(),
+            name.as_bytes(),
             snapshot.as_bytes(),
             DEPTH,
             WIDTH,
         ),
         [
             command,
-            layout,
+            name,
             snapshot,
             depth_word,
             depth,
@@ -53,7 +73,7 @@ pub fn form_of(words: &[Text]) -> Option<Form<'_>>
             width,
         ] => long_form(
             command.as_bytes(),
-            layout.as_bytes(),
+            name.as_bytes(),
             snapshot.as_bytes(),
             depth_word.as_bytes(),
             depth.as_bytes(),
@@ -64,54 +84,60 @@ pub fn form_of(words: &[Text]) -> Option<Form<'_>>
     }
 }
 
-/// `check L`.
-fn check_form<'a>(command: &[u8], layout: &'a [u8]) -> Option<Form<'a>>
-    ensures form { option_map (λ f. named f) result ≡ check_form command.now layout.now }
+/// `check L`, `show B`.
+fn file_form<'a>(command: &[u8], name: &'a [u8]) -> Option<Form<'a>>
+    ensures form { option_map (λ f. named f) result ≡ file_form command.now name.now }
     ensures shallow { IfSome result (λ f. IsShallow (named f)) }
 {
-    if command != b"check".as_slice() {
-        return None;
+    let name = utf8(name)?;
+    if command == b"check".as_slice() {
+        return Some(Form::Layout(name, LayoutCommand::Check));
     }
-    let layout = utf8(layout)?;
-    Some(Form::Check(layout))
+    if command == b"show".as_slice() {
+        return Some(Form::Bundle(name, BundleCommand::Show));
+    }
+    None
 }
 
-/// `text L S`, at a depth and a width.
-fn text_form<'a>(
+/// `text L S`, `print B S`, at a depth and a width.
+fn printing_form<'a>(
     command: &[u8],
-    layout: &'a [u8],
+    name: &'a [u8],
     snapshot: &'a [u8],
     depth: u32,
     width: u32,
 ) -> Option<Form<'a>>
     requires { depth ≤ 4 }
-    ensures form { option_map (λ f. named f) result ≡ text_form command.now layout.now snapshot.now depth width }
+    ensures form { option_map (λ f. named f) result ≡ printing_form command.now name.now snapshot.now depth width }
     ensures shallow { IfSome result (λ f. IsShallow (named f)) }
 {
-    if command != b"text".as_slice() {
-        return None;
-    }
-    let layout = utf8(layout)?;
+    let name = utf8(name)?;
     let snapshot = utf8(snapshot)?;
-    Some(Form::Text {
-        layout,
+    let printing = Printing {
         snapshot,
         depth,
         width,
-    })
+    };
+    if command == b"text".as_slice() {
+        return Some(Form::Layout(name, LayoutCommand::Text(printing)));
+    }
+    if command == b"print".as_slice() {
+        return Some(Form::Bundle(name, BundleCommand::Print(printing)));
+    }
+    None
 }
 
-/// `text L S --depth N --width N`.
+/// `text L S --depth N --width N`, `print B S --depth N --width N`.
 fn long_form<'a>(
     command: &[u8],
-    layout: &'a [u8],
+    name: &'a [u8],
     snapshot: &'a [u8],
     depth_word: &[u8],
     depth: &[u8],
     width_word: &[u8],
     width: &[u8],
 ) -> Option<Form<'a>>
-    ensures form { option_map (λ f. named f) result ≡ long_form command.now layout.now snapshot.now depth_word.now depth.now width_word.now width.now }
+    ensures form { option_map (λ f. named f) result ≡ long_form command.now name.now snapshot.now depth_word.now depth.now width_word.now width.now }
     ensures shallow { IfSome result (λ f. IsShallow (named f)) }
 {
     if depth_word != b"--depth".as_slice() || width_word != b"--width".as_slice() {
@@ -119,7 +145,7 @@ fn long_form<'a>(
     }
     let depth = number_from(depth, 0, 4)?;
     let width = number_from(width, 1, 256)?;
-    text_form(command, layout, snapshot, depth, width)
+    printing_form(command, name, snapshot, depth, width)
 }
 
 /// The number between these bounds that the word spells, in decimal without leading zeros.
@@ -142,15 +168,5 @@ fn utf8(bytes: &[u8]) -> Option<&str>
     match str::from_utf8(bytes) {
         Ok(text) => Some(text),
         Err(_) => None,
-    }
-}
-
-/// The name of the first file.
-pub fn layout_name<'a>(form: Form<'a>) -> &'a str
-    ensures { result.now ≡ layout_name (named form.entry) }
-{
-    match form {
-        Form::Check(layout) => layout,
-        Form::Text { layout, .. } => layout,
     }
 }

@@ -1,5 +1,6 @@
 //! Theorems on runs and on what they print. These functions do nothing: their contracts are the theorems.
 ghost use Rattle.layout_file.specs.Claims.{SpellOne, HaveReading as HaveLayoutReading, HaveNoFault as HaveNoLayoutError, HaveOneFault as HaveOneLayoutError};
+ghost use Rattle.bundle_reader.specs.Readings.{HaveReading as HaveBundleReading, HaveOneReading as HaveOneBundleReading};
 ghost use Rattle.snapshot_file.specs.Claims.{HaveReading as HaveSnapshotReading, HaveNoFault as HaveNoSnapshotError, HaveOneFault as HaveOneSnapshotError};
 ghost use Rattle.snapshot_file.specs.Snapshots.{OneSnapshot};
 ghost use Rattle.dbg_command.specs.OneEnding.{OneEnding, SomeEnding, AcceptedAreAnswered};
@@ -30,6 +31,20 @@ fn snapshots_have_one_reading()
     snapshot_file::a_file_has_at_most_one_fault();
 }
 
+/// A bundle is read in at most one way.
+fn bundles_have_one_reading()
+    ensures { HaveOneBundleReading }
+{
+    bundle_reader::a_bundle_is_read_one_way();
+}
+
+/// No bundle is without a reading.
+fn bundles_have_a_reading()
+    ensures { HaveBundleReading }
+{
+    bundle_reader::a_bundle_has_a_reading();
+}
+
 /// A layout file is read in some way.
 fn layouts_have_a_reading()
     ensures { HaveLayoutReading }
@@ -50,6 +65,7 @@ pub fn a_run_has_one_ending()
 {
     layouts_have_one_reading();
     snapshots_have_one_reading();
+    bundles_have_one_reading();
     one_value();
     a_set_has_at_most_one_first_breach();
 }
@@ -60,6 +76,7 @@ pub fn a_run_has_an_ending()
 {
     layouts_have_a_reading();
     snapshots_have_a_reading();
+    bundles_have_a_reading();
 }
 
 /// Where each file of a command is there, within its limit and accepted, and no read and no write failed, a run
@@ -69,6 +86,7 @@ pub fn accepted_files_are_answered()
 {
     layouts_have_one_reading();
     snapshots_have_one_reading();
+    bundles_have_one_reading();
     one_value();
     a_set_has_at_most_one_first_breach();
 }

@@ -1,11 +1,11 @@
 //! Why a run ends without an answer, and how it says so.
 ghost use Rattle.std.specs.Prelude.{◌≡◌, ◌++◌, ◌∷◌, [], decimal};
-ghost use Rattle.dbg_command.specs.Stops.{status_of, message, count_word, breach_line};
+ghost use Rattle.dbg_command.specs.Stops.{status_of, message, count_word, breach_line, outside_line, section_word};
 ghost use Rattle.dbg_command.specs.Runs.{Says, joined};
 
 use itoa::Buffer;
 use layout_file::Count;
-use layout_set::Item;
+use layout_set::{Item, Refusal, Section};
 use rv_io::{Memory, Sink};
 
 /// Why a run ends without an answer.
@@ -19,6 +19,8 @@ pub enum Stop<'a> {
     LayoutLimit(Count),
     /// The set of the layout breaks a law, first at this item.
     Breach { law: u8, at: Item },
+    /// The bundle, or a section of it, breaks a rule.
+    Outside(Refusal),
     /// A line of the snapshot, counted from 1, breaks a rule.
     SnapshotLine { line: u32, rule: u8 },
     /// The memory on this line of the snapshot begins below the end of the memory before.
@@ -54,6 +56,7 @@ pub fn status(stop: Stop<'_>) -> u8
         Stop::LayoutLine { .. }
         | Stop::LayoutLimit(_)
         | Stop::Breach { .. }
+        | Stop::Outside(_)
         | Stop::SnapshotLine { .. }
         | Stop::SnapshotOverlap(_)
         | Stop::CannotOpen(_)
@@ -79,6 +82,7 @@ pub fn tell<E: Sink>(err: &mut E, stop: Stop<'_>)
         ),
         Stop::LayoutLimit(which) => tell_text(err, b"rdbg: layout limit ", count_word(which)),
         Stop::Breach { law, at } => tell_breach(err, u32::from(law), at),
+        Stop::Outside(refusal) => tell_outside(err, refusal),
         Stop::SnapshotLine { line, rule } => tell_numbers(
             err,
             b"rdbg: snapshot line ",
@@ -117,6 +121,48 @@ fn tell_breach<E: Sink>(err: &mut E, law: u32, at: Item)
         Item::Static(place) => tell_numbers(err, front, law, b" at static ", place),
         Item::Func(place) => tell_numbers(err, front, law, b" at fn ", place),
     }
+}
+
+/// The name of a section in an object file, or the word for the bundle.
+fn section_word(section: Section) -> &'static [u8]
+    ensures { result.now ≡ section_word section }
+{
+    match section {
+        Section::Abbrev => b".debug_abbrev",
+        Section::Info => b".debug_info",
+        Section::Str => b".debug_str",
+        Section::LineStr => b".debug_line_str",
+        Section::StrOffsets => b".debug_str_offsets",
+        Section::Addr => b".debug_addr",
+        Section::LocLists => b".debug_loclists",
+        Section::RngLists => b".debug_rnglists",
+        Section::DebugT => b".debug$T",
+        Section::DebugS => b".debug$S",
+        Section::Bundle => b"bundle",
+    }
+}
+
+/// Puts the line of a rule that a section breaks.
+fn tell_outside<E: Sink>(err: &mut E, refusal: Refusal)
+    ensures { Says (E.written err.old) (E.written err.new) (E.faults err.old) (E.faults err.new) (outside_line refusal) }
+{
+    let mut digits = Buffer::new();
+    let mut others = Buffer::new();
+    let section = section_word(refusal.section);
+    let offset = digits.format(refusal.offset).as_bytes();
+    let rule = others.format(refusal.rule).as_bytes();
+    put_parts(
+        err,
+        &[
+            b"rdbg: outside ",
+            section,
+            b" ",
+            offset,
+            b" rule ",
+            rule,
+            b"\n",
+        ],
+    );
 }
 
 /// Puts a line of two texts.

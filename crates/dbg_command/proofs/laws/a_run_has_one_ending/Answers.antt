@@ -11,6 +11,7 @@ returns c =
       one_snapshot = c.snapshots_have_one_reading.ensures.snapshot;
       snapshot_spelled = c.snapshots_have_one_reading.ensures.spelled;
       snapshot_fault = c.snapshots_have_one_reading.ensures.error;
+      one_bundle = c.bundles_have_one_reading.ensures;
       one_value = c.one_value.ensures;
       one_breach = c.a_set_has_at_most_one_first_breach.ensures.lawful;
     } in

@@ -12,6 +12,9 @@ returns-in-LayoutLimit g c = rw (c.in-LayoutLimit.is, ← c.count_word.ensures) 
 pub returns-in-Breach : goal.returns-in-Breach
 returns-in-Breach g c = rw (c.in-Breach.is, ← c.from-in-Breach.ensures) c.tell_breach.ensures
 
+pub returns-in-Outside : goal.returns-in-Outside
+returns-in-Outside g c = rw c.in-Outside.is c.tell_outside.ensures
+
 pub returns-in-SnapshotLine : goal.returns-in-SnapshotLine
 returns-in-SnapshotLine g c = rw (c.in-SnapshotLine.is, ← c.from-in-SnapshotLine.ensures) c.tell_numbers-in-SnapshotLine.ensures
 

@@ -1,7 +1,0 @@
-use Rattle.layout_set.specs.Laws.{sound_laws}
-use Rattle.dbg_command.proofs.answer.of_text.Goals as goal
-
--- the first three laws of a lawful set
-pub lines-requires-clause-sizes : goal.lines-requires-clause-sizes
-unfolding sound_laws
-lines-requires-clause-sizes g c = record { within = c.requires.lawful 1; shallow = c.requires.lawful 2; small = c.requires.lawful 3 }
