@@ -2,9 +2,9 @@
 """Compares the cases of units and records with the second readers, and writes those of changed bytes.
 
     bench/second_reader/cases.py             compares the rows of crates/cases/data/units.cases and records.cases
-    bench/second_reader/cases.py --write     writes units_bytes.cases and records_bytes.cases beside them
+    bench/second_reader/cases.py --write     writes units_bytes.cases, records_bytes.cases and bundles_bytes.cases beside them
 
-The rows of the files that it writes are small good sections, of which each byte in turn is 0, ff, one more and one less.
+The rows of the files that it writes are small good sections, of which each byte in turn is 0, ff, one more and one less; of a bundle, what `show` prints.
 """
 import os
 import sys
@@ -86,6 +86,38 @@ GOOD_SYMBOLS = ('04000000 f1000000 20000000  0a00 3e11 74000000 0100 7800  1200 
                 '04000000 f1000000 2d000000  2700 1011 00000000 01000000 02000000 03000000 04000000 05000000 00100000 06000000 0100 00 6600  0200 0600')
 
 
+# A static whose type is a base type; and the same with its name by an index.
+STATIC = {
+    '.debug_abbrev': '01 11 01 13 05 10 17 00 00  02 24 00 03 08 3e 0b 0b 0b 00 00  03 34 00 03 08 49 13 02 18 00 00  00',
+    '.debug_info': '28000000 0500 01 08 00000000  01 1c00 00000000  02 75333200 07 04  03 4e00 13000000 09 030010000000000000  00',
+}
+INDEXED = {
+    '.debug_abbrev': '01 11 01 72 17 00 00  02 24 00 03 08 3e 0b 0b 0b 00 00  03 34 00 03 25 49 13 02 18 00 00  00',
+    '.debug_info': '25000000 0500 01 08 00000000  01 08000000  02 75333200 07 04  03 00 11000000 09 030010000000000000  00',
+    '.debug_str': '4e00',
+    '.debug_str_offsets': '08000000 0500 0000 00000000',
+}
+
+
+def bundle(sections):
+    """the bundle file of sections"""
+    out = b'RVBUNDL1\1\x08\0\0'
+    for name in dwarf.SECTIONS:
+        data = sections.get(name, b'')
+        out += len(data).to_bytes(4, 'little') + data
+    return out
+
+
+def put_shown(f, name, data):
+    """puts a case: what `show` prints of a bundle"""
+    shown = dwarf.show(data)
+    f.write('@case %s\n@file b\n@hex %s\n' % (name, data.hex()))
+    if shown.startswith('rdbg: '):
+        f.write('@stop 1 %s\n' % shown[6:])
+    else:
+        f.write('@out\n%s\n' % shown)
+
+
 def main():
     if sys.argv[1:] == ['--write']:
         write()
@@ -110,6 +142,18 @@ def write():
                 f.write('# %s\n%s | %s\n' % (text, data.hex(), READERS[kind](data)))
                 for new in changed(data):
                     f.write('%s | %s\n' % (new.hex() or '-', READERS[kind](new)))
+    with open(os.path.join(DATA, 'bundles_bytes.cases'), 'w', encoding='utf-8') as f:
+        f.write(HEAD.replace('a good section, and each of its bytes', 'good sections, and each byte of them') + '@words show b\n')
+        for title, texts, names in (('A static.', STATIC, ('.debug_abbrev', '.debug_info')), ('Its name by an index.', INDEXED, ('.debug_info', '.debug_str', '.debug_str_offsets'))):
+            sections = {name: bytes.fromhex(text) for name, text in texts.items()}
+            f.write('\n# %s\n' % title)
+            put_shown(f, 'as it is', bundle(sections))
+            for name in names:
+                data = sections[name]
+                for at, byte in enumerate(data):
+                    for other in sorted({0, 0xff, byte + 1 & 0xff, byte - 1 & 0xff} - {byte}):
+                        new = data[:at] + bytes([other]) + data[at + 1:]
+                        put_shown(f, '%s %d as %02x' % (name, at, other), bundle({**sections, name: new}))
 
 
 if __name__ == '__main__':

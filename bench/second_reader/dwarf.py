@@ -328,6 +328,8 @@ class Model:
             return True
         if e.tag == 0x34 and self.around(e) == 'type':
             return True
+        if e.tag in (0x34, 0x05) and 0x03 not in e.attrs and 0x31 not in e.attrs:
+            return True
         if e.tag == 0x2e:
             d = e.attrs.get(0x3c)
             if not self.with_functions or d is not None and d[2] == 'flag' and d[3]:

@@ -7,6 +7,7 @@ use case_words::lines::pair;
 use case_words::mistake::Mistake;
 use case_words::named::Named;
 use case_words::words::set_file;
+use entry_tables::outcome;
 use std::alloc::Global;
 
 /// What the rows of a table are about. BYTES and other words for bytes are hexadecimal digits, `-` for none, or the name of a file that
@@ -19,6 +20,8 @@ pub enum Kind {
     Units,
     /// Entries and what is around them: `ABBREVIATIONS INFO TEXTS OFFSETS | file NAME` of a line for each, or the error.
     Entries,
+    /// What entries are as types, where their links lead, and the rules that they break: `ABBREVIATIONS INFO`, likewise.
+    EntryTypes,
     /// Type records of CodeView: `BYTES | RECORD; RECORD ..`, or the error.
     TypeRecords,
     /// Symbol records of CodeView, likewise.
@@ -34,10 +37,11 @@ pub enum Kind {
 }
 
 /// The names of the kinds.
-const KINDS: [(&str, Kind); 9] = [
+const KINDS: [(&str, Kind); 10] = [
     ("bundles", Kind::Bundles),
     ("units", Kind::Units),
     ("entries", Kind::Entries),
+    ("entry-types", Kind::EntryTypes),
     ("type-records", Kind::TypeRecords),
     ("symbol-records", Kind::SymbolRecords),
     ("entry-calls", Kind::EntryCalls),
@@ -78,6 +82,7 @@ fn answer(alloc: Global, kind: Kind, files: &[Named], input: &str) -> Result<Str
         Kind::Bundles => bundles::outcome(alloc, files, input),
         Kind::Units => units::outcome(alloc, files, input),
         Kind::Entries => entries::outcome(alloc, files, input),
+        Kind::EntryTypes => outcome(alloc, files, input),
         Kind::TypeRecords => type_records::outcome(alloc, files, input),
         Kind::SymbolRecords => symbol_records::outcome(alloc, files, input),
         Kind::EntryCalls => dwarf_calls::answer(alloc, input),
