@@ -4,7 +4,8 @@
 #
 #     examples/compare.sh PROGRAM
 #
-# `check.txt` and `answer.txt` are what `check` and `text` print, with status 0 and no message. Where there is a `message.txt`, both commands
+# `check.txt` and `answer.txt` are what `check` and `text` print, with status 0 and no message; of a `bundle`, `show.txt` and `print.txt` are what `show` and
+# `print` print. Where there is a `message.txt`, both commands
 # print nothing, and end with that message and the status in `status.txt`.
 set -uo pipefail
 program=$(realpath "$1")
@@ -34,7 +35,10 @@ run() {
 for example in */; do
     example=${example%/}
     cd "$example"
-    if [ -e message.txt ]; then
+    if [ -e bundle ]; then
+        run show.txt "$room/empty" "$room/zero" show bundle
+        run print.txt "$room/empty" "$room/zero" print bundle snapshot.txt
+    elif [ -e message.txt ]; then
         run "$room/empty" message.txt status.txt check layout.txt
         run "$room/empty" message.txt status.txt text layout.txt snapshot.txt
     else
