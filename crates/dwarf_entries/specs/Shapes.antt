@@ -23,10 +23,12 @@ pub record DwarfUnit : Type 0 where
   pub start : ℕ
   pub entries : List Entry
 
--- the bytes of the sections: entries, and the texts and addresses to which they lead
+-- the bytes of the sections: entries, and the texts, addresses and lists to which they lead
 pub record Sections : Type 0 where
   pub info : List ℕ
   pub text : List ℕ
   pub line_text : List ℕ
   pub text_offsets : List ℕ
   pub addrs : List ℕ
+  pub locs : List ℕ
+  pub ranges : List ℕ

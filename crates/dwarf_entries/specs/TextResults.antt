@@ -9,7 +9,15 @@ use Rattle.layout_set.specs.declared.refusal.Refusal.{Refusal}
 
 -- the bytes of the sections
 abbrev pub bytes_of : Held → Sections
-bytes_of s = record { info = s.info.now; text = s.text.now; line_text = s.line_text.now; text_offsets = s.text_offsets.now; addrs = s.addrs.now }
+bytes_of s = record {
+  info = s.info.now;
+  text = s.text.now;
+  line_text = s.line_text.now;
+  text_offsets = s.text_offsets.now;
+  addrs = s.addrs.now;
+  locs = s.locs.now;
+  ranges = s.ranges.now;
+}
 
 -- where a refusal stands
 abbrev pub spot_of : Refusal → Spot

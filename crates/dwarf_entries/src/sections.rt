@@ -1,6 +1,6 @@
-//! The sections of debug information on types and statics.
+//! The sections of debug information.
 
-/// The whole bytes of the sections: entries, and the texts and addresses to which they lead.
+/// The whole bytes of the sections: entries, and the texts, addresses and lists to which they lead.
 #[derive(Clone, Copy, Debug)]
 pub struct Sections<'a> {
     /// `.debug_info`
@@ -13,6 +13,10 @@ pub struct Sections<'a> {
     pub text_offsets: &'a [u8],
     /// `.debug_addr`
     pub addrs: &'a [u8],
+    /// `.debug_loclists`
+    pub locs: &'a [u8],
+    /// `.debug_rnglists`
+    pub ranges: &'a [u8],
 }
 
 /// Where a unit's parts of `.debug_str_offsets` and `.debug_addr` begin, in bytes from the start of

@@ -13,7 +13,15 @@ use Rattle.dwarf_dies.specs.Units.{all_units}
 
 -- the bytes of the sections that entries lead to
 abbrev pub bytes_in : DwarfSections → Sections
-bytes_in s = record { info = s.info; text = s.text; line_text = s.line_text; text_offsets = s.text_offsets; addrs = s.addrs }
+bytes_in s = record {
+  info = s.info;
+  text = s.text;
+  line_text = s.line_text;
+  text_offsets = s.text_offsets;
+  addrs = s.addrs;
+  locs = s.locs;
+  ranges = s.ranges;
+}
 
 -- the sections describe this set of types and statics
 abbrev pub DescribeSet : DwarfSections → Set → Type 0

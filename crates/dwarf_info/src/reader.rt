@@ -36,6 +36,8 @@ fn sections_of(sections: &DwarfSections) -> Sections<'_>
         line_text: sections.line_text.as_bytes(),
         text_offsets: sections.text_offsets.as_bytes(),
         addrs: sections.addrs.as_bytes(),
+        locs: sections.locs.as_bytes(),
+        ranges: sections.ranges.as_bytes(),
     }
 }
 

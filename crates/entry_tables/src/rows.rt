@@ -20,6 +20,8 @@ pub fn outcome(alloc: Global, files: &[Named], row: &str) -> Result<String, Mist
         line_text: b"",
         text_offsets: b"",
         addrs: b"",
+        locs: b"",
+        ranges: b"",
     };
     match read_dies(alloc, abbrevs.as_slice(), sections) {
         Ok(dies) => text_of(alloc, &dies),

@@ -185,6 +185,8 @@ fn text(alloc: Global, words: &str) -> Result<String, Mistake> {
         line_text: lines.as_slice(),
         text_offsets: offsets.as_slice(),
         addrs: b"",
+        locs: b"",
+        ranges: b"",
     };
     let bases = Bases {
         text_offsets: base_in(base)?,
@@ -219,6 +221,8 @@ fn address(alloc: Global, words: &str) -> Result<String, Mistake> {
         line_text: b"",
         text_offsets: b"",
         addrs: addrs.as_slice(),
+        locs: b"",
+        ranges: b"",
     };
     let bases = Bases {
         text_offsets: None,

@@ -29,6 +29,8 @@ pub fn outcome(alloc: Global, files: &[Named], row: &str) -> Result<String, Mist
         line_text: b"",
         text_offsets: offsets.as_slice(),
         addrs: b"",
+        locs: b"",
+        ranges: b"",
     };
     match read_dies(alloc, abbrevs.as_slice(), sections) {
         Ok(dies) => or_none(alloc, text_of(alloc, &dies)?),
