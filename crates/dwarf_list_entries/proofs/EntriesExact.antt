@@ -1,6 +1,6 @@
 -- The readers of entries are exact.
 use Rattle.std.proofs.Common.{ℕ, Option, Some, None}
-use Rattle.expr_eval.specs.declared.addresses.Addrs.{Addrs}
+use Rattle.expr_eval.specs.Addresses.{Addresses}
 use Rattle.rv_bytes.specs.Rules.{outside}
 use Rattle.rv_bytes.specs.Forms.{Form, made, here}
 use Rattle.rv_bytes.specs.Readers.{Reader, got, with_value}
@@ -43,14 +43,14 @@ found_exact : (o : Option ListEntry) → Exact (found o) (read_found o)
 found_exact None = fails_exact outside
 found_exact (Some e) = nothing_exact e
 
-range_rest_exact : (addrs : Addrs) (o : Option Kind) → Exact (range_rest addrs o) (read_range_rest addrs o)
+range_rest_exact : (addrs : Addresses) (o : Option Kind) → Exact (range_rest addrs o) (read_range_rest addrs o)
 range_rest_exact addrs None = fails_exact unknown_kind
 range_rest_exact addrs (Some kind) =
     follow_exact (operands kind) (λ raw. found (looked_up addrs raw)) (read_operands kind) (λ raw. read_found (looked_up addrs raw)) (operands_exact kind)
     (λ raw. found_exact (looked_up addrs raw))
 
 -- of an entry of a range list
-pub range_entry_exact : (addrs : Addrs) → Exact (range_entry addrs) (read_range_entry addrs)
+pub range_entry_exact : (addrs : Addresses) → Exact (range_entry addrs) (read_range_entry addrs)
 range_entry_exact addrs =
     item_exact _ (read_coded_range addrs) any_value
     (follow_exact (number 1) (λ code. range_rest addrs (range_kind code)) (read_number 1) (λ code. read_range_rest addrs (range_kind code)) (number_exact 1) (λ code. range_rest_exact addrs (range_kind code)))
@@ -70,7 +70,7 @@ expression_exact kind =
     choose_exact (has_expression kind) _ _ (λ n s. with_value (λ b. Some b) (read_counted n s)) (λ n s. got None n s) (made_exact (λ b. Some b) counted read_counted counted_exact)
     (nothing_exact None)
 
-location_rest_exact : (addrs : Addrs) (o : Option Kind) → Exact (location_rest addrs o) (read_location_rest addrs o)
+location_rest_exact : (addrs : Addresses) (o : Option Kind) → Exact (location_rest addrs o) (read_location_rest addrs o)
 location_rest_exact addrs None = fails_exact unknown_kind
 location_rest_exact addrs (Some kind) =
     follow_exact (operands kind) _ (read_operands kind) _ (operands_exact kind)
@@ -78,7 +78,7 @@ location_rest_exact addrs (Some kind) =
     (λ e. made_exact (located e) (found (looked_up addrs raw)) (read_found (looked_up addrs raw)) (found_exact (looked_up addrs raw))))
 
 -- of an entry of a location list
-pub location_entry_exact : (addrs : Addrs) → Exact (location_entry addrs) (read_location_entry addrs)
+pub location_entry_exact : (addrs : Addresses) → Exact (location_entry addrs) (read_location_entry addrs)
 location_entry_exact addrs =
     item_exact _ (read_coded_location addrs) any_value
     (follow_exact (number 1) (λ code. location_rest addrs (location_kind code)) (read_number 1) (λ code. read_location_rest addrs (location_kind code)) (number_exact 1) (λ code. location_rest_exact addrs (location_kind code)))

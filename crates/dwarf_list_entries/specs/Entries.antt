@@ -1,7 +1,7 @@
 -- The entries of range lists, and what an entry of either list says: DWARF 5, 2.17.3 and 2.6.2.
 use Rattle.std.specs.Prelude.{ℕ, ◌+◌, ◌%◌, ◌^◌, Option, Some, None, option_map, option_and_then}
 use Rattle.expr_eval.specs.Addresses.{address_at}
-use Rattle.expr_eval.specs.declared.addresses.Addrs.{Addrs}
+use Rattle.expr_eval.specs.Addresses.{Addresses}
 use Rattle.rv_bytes.specs.Rules.{outside}
 use Rattle.rv_bytes.specs.Forms.{Form, nothing, follow, item, fails}
 use Rattle.rv_bytes.specs.Numbers.{number}
@@ -19,11 +19,11 @@ abbrev pub sum : ℕ → ℕ → ℕ
 sum address n = (address + n) % 2 ^ 64
 
 -- the address at an index of `.debug_addr`
-abbrev pub indexed : Addrs → ℕ → Option ℕ
-indexed addrs index = address_at 8 addrs.section.now addrs.base index
+abbrev pub indexed : Addresses → ℕ → Option ℕ
+indexed addrs index = address_at 8 addrs.section addrs.base index
 
 -- an entry with the addresses of its indexes, where they have some
-abbrev pub looked_up : Addrs → RawEntry → Option ListEntry
+abbrev pub looked_up : Addresses → RawEntry → Option ListEntry
 looked_up addrs RawEntry.EndOfList = Some says.EndOfList
 looked_up addrs (RawEntry.BaseAddressx index) = option_map says.BaseAddress (indexed addrs index)
 looked_up addrs (RawEntry.StartxEndx start end) = option_and_then (λ lo. option_map (says.StartEnd lo) (indexed addrs end)) (indexed addrs start)
@@ -53,7 +53,7 @@ found None = fails outside
 found (Some e) = nothing e
 
 -- what follows the code of a kind; a code of no kind is invalid
-abbrev pub range_rest : Addrs → Option Kind → Form ℕ ListEntry
+abbrev pub range_rest : Addresses → Option Kind → Form ℕ ListEntry
 range_rest addrs None = fails unknown_kind
 range_rest addrs (Some kind) = follow (operands kind) (λ raw. found (looked_up addrs raw))
 
@@ -62,5 +62,5 @@ abbrev pub any_value : {A : Type 0} → A → Option ℕ
 any_value v = None
 
 -- an entry of a range list, which is one item
-abbrev pub range_entry : Addrs → Form ℕ ListEntry
+abbrev pub range_entry : Addresses → Form ℕ ListEntry
 range_entry addrs = item (follow (number 1) (λ code. range_rest addrs (range_kind code))) any_value

@@ -1,6 +1,6 @@
 -- The entries of location lists: DWARF 5, 2.6.2 and 7.7.3.
 use Rattle.std.specs.Prelude.{ℕ, List, Option, Some, None, option_map}
-use Rattle.expr_eval.specs.declared.addresses.Addrs.{Addrs}
+use Rattle.expr_eval.specs.Addresses.{Addresses}
 use Rattle.rv_bytes.specs.Forms.{Form, nothing, follow, made, here, item, choose, fails}
 use Rattle.rv_bytes.specs.Numbers.{bytes, number, uleb}
 use Rattle.dwarf_list_entries.specs.Rules.{unknown_kind}
@@ -45,10 +45,10 @@ abbrev pub expression : Kind → Form ℕ (Option Bytes)
 expression kind = choose (has_expression kind) (made (λ b. Some b) counted) (nothing None)
 
 -- what follows the code of a kind: operands, and an expression; a code of no kind is invalid, and so is an index without an address
-abbrev pub location_rest : Addrs → Option Kind → Form ℕ Located
+abbrev pub location_rest : Addresses → Option Kind → Form ℕ Located
 location_rest addrs None = fails unknown_kind
 location_rest addrs (Some kind) = follow (operands kind) (λ raw. follow (expression kind) (λ e. made (located e) (found (looked_up addrs raw))))
 
 -- an entry of a location list, which is one item
-abbrev pub location_entry : Addrs → Form ℕ Located
+abbrev pub location_entry : Addresses → Form ℕ Located
 location_entry addrs = item (follow (number 1) (λ code. location_rest addrs (location_kind code))) any_value

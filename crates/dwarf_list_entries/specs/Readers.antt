@@ -1,6 +1,6 @@
 -- The readers of entries, for proofs.
 use Rattle.std.specs.Prelude.{ℕ, if◌then◌else◌, Option, Some, None}
-use Rattle.expr_eval.specs.declared.addresses.Addrs.{Addrs}
+use Rattle.expr_eval.specs.Addresses.{Addresses}
 use Rattle.rv_bytes.specs.Rules.{outside}
 use Rattle.rv_bytes.specs.Readers.{got, bad, Reader, and_then, with_value, as_item}
 use Rattle.rv_bytes.specs.NumberReaders.{read_bytes, read_number, read_uleb}
@@ -40,16 +40,16 @@ read_found None n s = bad outside n
 read_found (Some e) n s = got e n s
 
 -- the reader of `range_rest`
-abbrev pub read_range_rest : Addrs → Option Kind → Reader ℕ ListEntry
+abbrev pub read_range_rest : Addresses → Option Kind → Reader ℕ ListEntry
 read_range_rest addrs None n s = bad unknown_kind n
 read_range_rest addrs (Some kind) n s = and_then (read_operands kind n s) (λ raw. read_found (looked_up addrs raw))
 
 -- the reader of a code, and of what follows it
-abbrev pub read_coded_range : Addrs → Reader ℕ ListEntry
+abbrev pub read_coded_range : Addresses → Reader ℕ ListEntry
 read_coded_range addrs n s = and_then (read_number 1 n s) (λ code. read_range_rest addrs (range_kind code))
 
 -- the reader of `range_entry`
-abbrev pub read_range_entry : Addrs → Reader ℕ ListEntry
+abbrev pub read_range_entry : Addresses → Reader ℕ ListEntry
 read_range_entry addrs n s = as_item any_value n (read_coded_range addrs n s)
 
 -- the reader of `counted`
@@ -61,15 +61,15 @@ abbrev pub read_expression : Kind → Reader ℕ (Option Bytes)
 read_expression kind n s = if has_expression kind then with_value (λ b. Some b) (read_counted n s) else got None n s
 
 -- the reader of `location_rest`
-abbrev pub read_location_rest : Addrs → Option Kind → Reader ℕ Located
+abbrev pub read_location_rest : Addresses → Option Kind → Reader ℕ Located
 read_location_rest addrs None n s = bad unknown_kind n
 read_location_rest addrs (Some kind) n s =
     and_then (read_operands kind n s) (λ raw m k. and_then (read_expression kind m k) (λ e j l. with_value (located e) (read_found (looked_up addrs raw) j l)))
 
 -- the reader of a code, and of what follows it
-abbrev pub read_coded_location : Addrs → Reader ℕ Located
+abbrev pub read_coded_location : Addresses → Reader ℕ Located
 read_coded_location addrs n s = and_then (read_number 1 n s) (λ code. read_location_rest addrs (location_kind code))
 
 -- the reader of `location_entry`
-abbrev pub read_location_entry : Addrs → Reader ℕ Located
+abbrev pub read_location_entry : Addresses → Reader ℕ Located
 read_location_entry addrs n s = as_item any_value n (read_coded_location addrs n s)

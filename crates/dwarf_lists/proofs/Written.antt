@@ -3,7 +3,7 @@ use Rattle.std.proofs.Common.{◌≡◌, ◌<◌, ◌≤◌, ℕ, ◌+◌, ◌^�
 use Rattle.std.proofs.Math.Seq.{take-suc}
 use Rattle.std.proofs.lemmas.List.{take_all}
 use Rattle.byteorder.specs.Endian.{little_bytes}
-use Rattle.expr_eval.specs.declared.addresses.Addrs.{Addrs}
+use Rattle.expr_eval.specs.Addresses.{Addresses}
 use Rattle.layout_set.specs.declared.func.Zone.{Zone}
 use Rattle.rv_bytes.specs.Forms.{follow, made, row}
 use Rattle.rv_bytes.specs.Numbers.{number}
@@ -33,7 +33,7 @@ unfolding range_kind
 end_kind = refl
 
 -- an entry of two addresses
-pub start_end_put : (addrs : Addrs) (lo hi : ℕ) (old one two new : List ℕ) → lo < 256 ^ 8 → hi < 256 ^ 8 → one ≡ old ++ little_bytes 1 rle.start_end → two ≡ one ++ little_bytes 8 lo → new ≡ two ++ little_bytes 8 hi → IsPut (range_entry addrs) (says.StartEnd lo hi) old new
+pub start_end_put : (addrs : Addresses) (lo hi : ℕ) (old one two new : List ℕ) → lo < 256 ^ 8 → hi < 256 ^ 8 → one ≡ old ++ little_bytes 1 rle.start_end → two ≡ one ++ little_bytes 8 lo → new ≡ two ++ little_bytes 8 hi → IsPut (range_entry addrs) (says.StartEnd lo hi) old new
 start_end_put addrs lo hi old one two new l h a b c =
     let e = says.StartEnd lo hi in
     let numbers : IsPut (operands Kind.StartEnd) (raw.StartEnd lo hi) one new =
@@ -44,7 +44,7 @@ start_end_put addrs lo hi old one two new l h a b c =
     (put_then (operands Kind.StartEnd) (λ x. found (looked_up addrs x)) (raw.StartEnd lo hi) e one new new numbers (put_nothing e new))))
 
 -- the end of a list
-end_put : (addrs : Addrs) (old new : List ℕ) → new ≡ old ++ little_bytes 1 rle.end_of_list → IsPut (range_entry addrs) says.EndOfList old new
+end_put : (addrs : Addresses) (old new : List ℕ) → new ≡ old ++ little_bytes 1 rle.end_of_list → IsPut (range_entry addrs) says.EndOfList old new
 end_put addrs old new a =
     put_item (follow (number 1) (λ code. range_rest addrs (range_kind code))) any_value says.EndOfList old new refl
     (put_then (number 1) (λ code. range_rest addrs (range_kind code)) rle.end_of_list says.EndOfList old new new (put_number 1 rle.end_of_list old new (lit< tt) a)
@@ -53,14 +53,14 @@ end_put addrs old new a =
 
 -- the entries of the first zones were appended
 abbrev pub ArePut : List Zone → ℕ → List ℕ → List ℕ → Type 0
-ArePut zones i old new = (addrs : Addrs) → IsPart (range_entries addrs) false false (map entry_of (take i zones)) old new
+ArePut zones i old new = (addrs : Addresses) → IsPart (range_entries addrs) false false (map entry_of (take i zones)) old new
 
 map_push : (zones : List Zone) (zone : Zone) → map entry_of (zones ++ zone ∷ []) ≡ map entry_of zones ++ entry_of zone ∷ []
 map_push [] zone = refl
 map_push (z ∷ zones) zone = ap (λ l. entry_of z ∷ l) (map_push zones zone)
 
 -- one entry more
-pub entries_more : (zones : List Zone) (i : ℕ) (d : Zone) (old mid new : List ℕ) → i < length zones → ArePut zones i old mid → ((addrs : Addrs) → IsPut (range_entry addrs) (entry_of (get_or zones i d)) mid new) → ArePut zones (i + 1) old new
+pub entries_more : (zones : List Zone) (i : ℕ) (d : Zone) (old mid new : List ℕ) → i < length zones → ArePut zones i old mid → ((addrs : Addresses) → IsPut (range_entry addrs) (entry_of (get_or zones i d)) mid new) → ArePut zones (i + 1) old new
 entries_more zones i d old mid new l a b addrs =
     let t : take (i + 1) zones ≡ take i zones ++ get_or zones i d ∷ [] = ap (λ n. take n zones) (add-one i) ∙ take-suc zones i d l in
     subst (λ es. IsPart (range_entries addrs) false false es old new) (sym (ap (map entry_of) t ∙ map_push (take i zones) (get_or zones i d)))

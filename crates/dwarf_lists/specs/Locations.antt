@@ -1,6 +1,6 @@
 -- Location lists, with the bytes of their expressions: DWARF 5, 2.6.2 and 7.7.3.
 use Rattle.std.specs.Prelude.{ℕ, nat_lt, Bool, false, if◌then◌else◌, List, [], ◌∷◌, ◌++◌, Option, Some, None}
-use Rattle.expr_eval.specs.declared.addresses.Addrs.{Addrs}
+use Rattle.expr_eval.specs.Addresses.{Addresses}
 use Rattle.rv_bytes.specs.Forms.{Form, made, Steps, row}
 use Rattle.dwarf_list_entries.specs.Entries.{base_after, bounds_from}
 use Rattle.dwarf_list_entries.specs.Locations.{Bytes, Located, bytes_seen, location_entry}
@@ -12,7 +12,7 @@ abbrev pub after_located : Bool → Located → Bool
 after_located _ e = is_end e.entry
 
 -- entries, of which the last, and no other, is the end of the list
-abbrev pub location_entries : Addrs → Steps Bool Located ℕ
+abbrev pub location_entries : Addresses → Steps Bool Located ℕ
 location_entries addrs = record { over = λ b. b; due = λ _. location_entry addrs; next = after_located }
 
 -- bounds, and the bytes of the expression that says where a variable is within them
@@ -43,5 +43,5 @@ locations base [] = []
 locations base (e ∷ es) = locations_of base e ++ locations (base_after base e.entry) es
 
 -- a location list, and the locations that it says
-abbrev pub location_list : Addrs → ℕ → Form ℕ (List Location)
+abbrev pub location_list : Addresses → ℕ → Form ℕ (List Location)
 location_list addrs base = made (locations base) (row (location_entries addrs) false)

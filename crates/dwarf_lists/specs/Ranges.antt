@@ -1,6 +1,6 @@
 -- Range lists: DWARF 5, 2.17.3 and 7.25.
 use Rattle.std.specs.Prelude.{ℕ, nat_lt, Bool, true, false, if◌then◌else◌, List, [], ◌∷◌, ◌++◌, Option, Some, None}
-use Rattle.expr_eval.specs.declared.addresses.Addrs.{Addrs}
+use Rattle.expr_eval.specs.Addresses.{Addresses}
 use Rattle.layout_set.specs.declared.func.Zone.{Zone}
 use Rattle.rv_bytes.specs.Forms.{Form, made, Steps, row}
 use Rattle.dwarf_list_entries.specs.Entries.{range_entry, base_after, bounds_from}
@@ -18,7 +18,7 @@ abbrev pub after_entry : Bool → ListEntry → Bool
 after_entry _ e = is_end e
 
 -- entries, of which the last, and no other, is the end of the list
-abbrev pub range_entries : Addrs → Steps Bool ListEntry ℕ
+abbrev pub range_entries : Addresses → Steps Bool ListEntry ℕ
 range_entries addrs = record { over = λ b. b; due = λ _. range_entry addrs; next = after_entry }
 
 -- the addresses between bounds, if there are some
@@ -32,5 +32,5 @@ ranges base [] = []
 ranges base (e ∷ es) = zones_of (bounds_from base e) ++ ranges (base_after base e) es
 
 -- a range list, and the ranges that it says
-abbrev pub range_list : Addrs → ℕ → Form ℕ (List Zone)
+abbrev pub range_list : Addresses → ℕ → Form ℕ (List Zone)
 range_list addrs base = made (ranges base) (row (range_entries addrs) false)

@@ -3,7 +3,7 @@ ghost use Rattle.std.specs.Prelude.{ℕ};
 ghost use Rattle.rv_bytes.specs.Forms.{IsDefinite};
 ghost use Rattle.rv_bytes.specs.Rules.{outside};
 ghost use Rattle.rv_bytes.specs.Sections.{HasOneAnswer};
-ghost use Rattle.expr_eval.specs.declared.addresses.Addrs.{Addrs};
+ghost use Rattle.expr_eval.specs.Addresses.{Addresses};
 ghost use Rattle.dwarf_lists.specs.Texts.{IndexHasOneAnswer};
 ghost use Rattle.dwarf_lists.specs.Places.{IndexHasOneList};
 ghost use Rattle.dwarf_lists.specs.Ranges.{range_list};
@@ -24,6 +24,6 @@ pub fn an_index_has_one_list()
 /// invalid, and by one rule, and never both. So [`read_ranges`](crate::read_ranges) and
 /// [`read_location_list`](crate::read_location_list) have one answer, if memory lasts.
 pub fn lists_are_read_one_way()
-    ensures ranges { (addrs : Addrs) (base : ℕ) → HasOneAnswer outside (range_list addrs base) }
-    ensures locations { (addrs : Addrs) (base : ℕ) → HasOneAnswer outside (location_list addrs base) }
+    ensures ranges { (addrs : Addresses) (base : ℕ) → HasOneAnswer outside (range_list addrs base) }
+    ensures locations { (addrs : Addresses) (base : ℕ) → HasOneAnswer outside (location_list addrs base) }
 {}

@@ -1,6 +1,6 @@
 //! How range lists are written (DWARF 5, 2.17.3 and 7.25).
 ghost use Rattle.std.specs.Prelude.{◌≡◌, OnOk, OnErr};
-ghost use Rattle.expr_eval.specs.declared.addresses.Addrs.{Addrs};
+ghost use Rattle.expr_eval.specs.Addresses.{Addresses};
 ghost use Rattle.rv_bytes.specs.Writers.{IsPut, Extends};
 ghost use Rattle.dwarf_list_entries.specs.Entries.{range_entry};
 ghost use Rattle.dwarf_list_entries.specs.declared.entry.ListEntry.TheVariants.{StartEnd};
@@ -13,7 +13,7 @@ use rv_io::{Buf, Memory};
 
 /// An entry with the first address and the end.
 fn put_range(out: &mut Buf, lo: u64, hi: u64) -> Result<(), Memory>
-    ensures put { (addrs : Addrs) → OnOk result (IsPut (range_entry addrs) (StartEnd lo hi) out.old out.new) }
+    ensures put { (addrs : Addresses) → OnOk result (IsPut (range_entry addrs) (StartEnd lo hi) out.old out.new) }
     ensures kept { Extends out.old out.new }
 {
     put_u8(out, rle::START_END)?;

@@ -4,7 +4,7 @@ use Rattle.std.specs.Int.{w64, cast_unsigned}
 use Rattle.snapshot_file.specs.declared.registers.Reg.{Reg}
 use Rattle.snapshot_file.specs.Registers.{width_of}
 use Rattle.expr_eval.specs.Addresses.{address_at}
-use Rattle.expr_eval.specs.declared.addresses.Addrs.{Addrs}
+use Rattle.expr_eval.specs.Addresses.{Addresses}
 use Rattle.expr_eval.specs.declared.operation.Op.TheVariants as op
 use Rattle.rv_bytes.specs.Rules.{outside}
 use Rattle.rv_bytes.specs.Forms.{follow}
@@ -52,14 +52,14 @@ counted_exact : Exact (follow uleb bytes) (λ n s. and_then (read_uleb n s) read
 counted_exact = follow_exact uleb bytes read_uleb read_bytes uleb_exact bytes_exact
 
 -- of what follows a code
-pub operands_exact : (frame : Frame) (addrs : Addrs) (o : Option Layout) → Exact (operands frame addrs o) (read_operands frame addrs o)
+pub operands_exact : (frame : Frame) (addrs : Addresses) (o : Option Layout) → Exact (operands frame addrs o) (read_operands frame addrs o)
 operands_exact frame addrs None = fails_exact bad_operation
 operands_exact frame addrs (Some (Layout.Plain o)) = nothing_exact (Some (Oper.Machine o))
 operands_exact frame addrs (Some Layout.Nop) = nothing_exact None
 operands_exact frame addrs (Some Layout.Address) = made_exact (λ a. Some (Oper.Address a)) (number 8) (read_number 8) (number_exact 8)
 operands_exact frame addrs (Some Layout.AddressIndex) =
-    follow_exact uleb _ read_uleb (λ i. read_address (address_at 8 addrs.section.now addrs.base i)) uleb_exact
-    (λ i. address_exact (address_at 8 addrs.section.now addrs.base i))
+    follow_exact uleb _ read_uleb (λ i. read_address (address_at 8 addrs.section addrs.base i)) uleb_exact
+    (λ i. address_exact (address_at 8 addrs.section addrs.base i))
 operands_exact frame addrs (Some (Layout.Constant w)) = made_exact constant (number (bytes_in w)) (read_number (bytes_in w)) (number_exact (bytes_in w))
 operands_exact frame addrs (Some (Layout.SignedConstant w)) = made_exact (λ n. constant (widened (bytes_in w) n)) (number (bytes_in w)) (read_number (bytes_in w)) (number_exact (bytes_in w))
 operands_exact frame addrs (Some Layout.ConstantLeb) = made_exact constant uleb read_uleb uleb_exact
@@ -83,7 +83,7 @@ operands_exact frame addrs (Some Layout.Entry) =
     made_exact (λ _. Some (Oper.Machine op.Entry)) (follow uleb bytes) (λ n s. and_then (read_uleb n s) read_bytes) counted_exact
 
 -- of an operation
-pub operation_exact : (frame : Frame) (addrs : Addrs) → Exact (operation frame addrs) (read_operation frame addrs)
+pub operation_exact : (frame : Frame) (addrs : Addresses) → Exact (operation frame addrs) (read_operation frame addrs)
 operation_exact frame addrs =
     item_exact _ (read_coded frame addrs) any_value
     (follow_exact (number 1) (λ code. operands frame addrs (layout_of code)) (read_number 1) (λ code. read_operands frame addrs (layout_of code)) (number_exact 1) (λ code. operands_exact frame addrs (layout_of code)))

@@ -6,7 +6,7 @@ use Rattle.byteorder.specs.Endian.{little_bytes}
 use Rattle.snapshot_file.specs.declared.registers.Reg.{Reg}
 use Rattle.snapshot_file.specs.declared.registers.Reg.TheVariants as regs
 use Rattle.snapshot_file.specs.Registers.{width_of}
-use Rattle.expr_eval.specs.declared.addresses.Addrs.{Addrs}
+use Rattle.expr_eval.specs.Addresses.{Addresses}
 use Rattle.expr_eval.specs.declared.operation.Op.{Op}
 use Rattle.expr_eval.specs.declared.operation.Op.TheVariants as op
 use Rattle.expr_eval.specs.Invariant.{is_sound, each_sound, AreOps}
@@ -62,32 +62,32 @@ reg_back regs.Xmm14 = refl
 reg_back regs.Xmm15 = refl
 
 -- What follows the code, operation by operation.
-pub const_put : (frame : Frame) (addrs : Addrs) (n : ℕ) (old new : List ℕ) → AppendsShortest uleb n old new
+pub const_put : (frame : Frame) (addrs : Addresses) (n : ℕ) (old new : List ℕ) → AppendsShortest uleb n old new
     → IsPut (operands frame addrs (Some (layout_by (op.Const n)))) (Some (oper_by (op.Const n))) old new
 const_put frame addrs n old new a = put_made constant uleb n old new (put_shortest uleb n old new a)
 
-pub plus_put : (frame : Frame) (addrs : Addrs) (n : ℕ) (old new : List ℕ) → AppendsShortest uleb n old new
+pub plus_put : (frame : Frame) (addrs : Addresses) (n : ℕ) (old new : List ℕ) → AppendsShortest uleb n old new
     → IsPut (operands frame addrs (Some (layout_by (op.PlusConst n)))) (Some (oper_by (op.PlusConst n))) old new
 plus_put frame addrs n old new a = put_made (λ n. Some (Oper.Machine (op.PlusConst n))) uleb n old new (put_shortest uleb n old new a)
 
-pub deref_put : (frame : Frame) (addrs : Addrs) (n : ℕ) (old new : List ℕ) → n < 256 ^ 1 → is_sound (op.Deref n) ≡ true → new ≡ old ++ little_bytes 1 n
+pub deref_put : (frame : Frame) (addrs : Addresses) (n : ℕ) (old new : List ℕ) → n < 256 ^ 1 → is_sound (op.Deref n) ≡ true → new ≡ old ++ little_bytes 1 n
     → IsPut (operands frame addrs (Some (layout_by (op.Deref n)))) (Some (oper_by (op.Deref n))) old new
 deref_put frame addrs n old new f h e =
     put_then (number 1) sized n (Some (Oper.Machine (op.Deref n))) old new new (put_number 1 n old new f e)
     (put_first (nat_lt 0 n && nat_le n 8) (nothing (Some (Oper.Machine (op.Deref n)))) (fails bad_operation) (Some (Oper.Machine (op.Deref n))) new new h (put_nothing (Some (Oper.Machine (op.Deref n))) new))
 
-pub pick_put : (frame : Frame) (addrs : Addrs) (n : ℕ) (old new : List ℕ) → n < 256 ^ 1 → new ≡ old ++ little_bytes 1 n
+pub pick_put : (frame : Frame) (addrs : Addresses) (n : ℕ) (old new : List ℕ) → n < 256 ^ 1 → new ≡ old ++ little_bytes 1 n
     → IsPut (operands frame addrs (Some (layout_by (op.Pick n)))) (Some (oper_by (op.Pick n))) old new
 pick_put frame addrs n old new f e = put_made (λ n. Some (Oper.Machine (op.Pick n))) (number 1) n old new (put_number 1 n old new f e)
 
-pub sum_put : (frame : Frame) (addrs : Addrs) (reg : Reg) (z : ℤ) (old new : List ℕ) → is_sound (op.RegPlus reg z) ≡ true → AppendsShortest sleb z old new
+pub sum_put : (frame : Frame) (addrs : Addresses) (reg : Reg) (z : ℤ) (old new : List ℕ) → is_sound (op.RegPlus reg z) ≡ true → AppendsShortest sleb z old new
     → IsPut (operands frame addrs (Some (layout_by (op.RegPlus reg z)))) (Some (oper_by (op.RegPlus reg z))) old new
 sum_put frame addrs reg z old new h a =
     put_then sleb (based (reg_at (number_of reg))) z (Some (Oper.Based reg z)) old new new (put_shortest sleb z old new a)
     (subst (λ r. IsPut (based r z) (Some (Oper.Based reg z)) new new) (sym (reg_back reg))
     (put_first (width_of reg == 8) (nothing (Some (Oper.Based reg z))) (fails bad_operation) (Some (Oper.Based reg z)) new new h (put_nothing (Some (Oper.Based reg z)) new)))
 
-pub entry_put : (frame : Frame) (addrs : Addrs) (old new : List ℕ) → AppendsShortest uleb 0 old new
+pub entry_put : (frame : Frame) (addrs : Addresses) (old new : List ℕ) → AppendsShortest uleb 0 old new
     → IsPut (operands frame addrs (Some (layout_by op.Entry))) (Some (oper_by op.Entry)) old new
 entry_put frame addrs old new a =
     let none : IsPut (bytes 0) [] new new = record { bytes = []; appended = sym (append-nil new); spelled = λ n. (refl, refl) } in
@@ -97,7 +97,7 @@ pub plain_put : (o : Op) (old : List ℕ) → IsPut (nothing (Some (Oper.Machine
 plain_put o old = put_nothing (Some (Oper.Machine o)) old
 
 -- an operation, by its code and what follows it
-pub op_put : (frame : Frame) (addrs : Addrs) (o : Op) (code : ℕ) (old mid new : List ℕ) → code < 256 ^ 1 → layout_of code ≡ Some (layout_by o)
+pub op_put : (frame : Frame) (addrs : Addresses) (o : Op) (code : ℕ) (old mid new : List ℕ) → code < 256 ^ 1 → layout_of code ≡ Some (layout_by o)
     → mid ≡ old ++ little_bytes 1 code → IsPut (operands frame addrs (Some (layout_by o))) (Some (oper_by o)) mid new
     → IsPut (operation frame addrs) (Some (oper_by o)) old new
 op_put frame addrs o code old mid new f e a b =
@@ -106,7 +106,7 @@ op_put frame addrs o code old mid new f e a b =
     (subst (λ l. IsPut (operands frame addrs l) (Some (oper_by o)) mid new) (sym e) b))
 
 -- one operation more
-stand_push : (frame : Frame) (addrs : Addrs) (n : ℕ) (os : List (Option Oper)) (o : Option Oper) (t u : List ℕ) → StandAt frame addrs n os t
+stand_push : (frame : Frame) (addrs : Addresses) (n : ℕ) (os : List (Option Oper)) (o : Option Oper) (t u : List ℕ) → StandAt frame addrs n os t
     → (operation frame addrs).spells (n + length t) o u → StandAt frame addrs n (os ++ o ∷ []) (t ++ u)
 stand_push frame addrs n [] o t u h w =
     rw h (record { front = u; back = []; split = sym (append-nil u); is_front = subst (λ m. (operation frame addrs).spells m o u) (ap (λ l. n + length l) h ∙ add-zero n) w; is_back = refl })
@@ -134,7 +134,7 @@ same_bytes old b c e = sym (drop-append_seam old b) ∙ ap (drop (length old)) e
 
 -- one more was appended, whose bytes don't depend on the frame base or the addresses
 pub more_put : (ops : List Op) (i : ℕ) (d : Op) (old mid new : List ℕ) → i < length ops → ArePut (take i ops) old mid → Extends mid new
-    → ((frame : Frame) (addrs : Addrs) → IsPut (operation frame addrs) (Some (oper_by (get_or ops i d))) mid new) → ArePut (take (i + 1) ops) old new
+    → ((frame : Frame) (addrs : Addresses) → IsPut (operation frame addrs) (Some (oper_by (get_or ops i d))) mid new) → ArePut (take (i + 1) ops) old new
 more_put ops i d old mid new l a k w =
     subst (λ xs. ArePut xs old new) (sym (ap (λ n. take n ops) (add-one i) ∙ take-suc ops i d l)) (record {
       bytes = a.bytes ++ k.bytes;

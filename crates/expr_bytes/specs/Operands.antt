@@ -4,7 +4,7 @@ use Rattle.std.specs.Int.{w64, cast_unsigned}
 use Rattle.snapshot_file.specs.declared.registers.Reg.{Reg}
 use Rattle.snapshot_file.specs.Registers.{width_of}
 use Rattle.expr_eval.specs.Addresses.{address_at}
-use Rattle.expr_eval.specs.declared.addresses.Addrs.{Addrs}
+use Rattle.expr_eval.specs.Addresses.{Addresses}
 use Rattle.expr_eval.specs.declared.operation.Op.TheVariants as op
 use Rattle.rv_bytes.specs.Rules.{outside}
 use Rattle.rv_bytes.specs.Forms.{Form, nothing, follow, made, item, choose, fails}
@@ -50,12 +50,12 @@ abbrev pub sized : ℕ → Form ℕ (Option Oper)
 sized n = choose (nat_lt 0 n && nat_le n 8) (nothing (Some (Oper.Machine (op.Deref n)))) (fails bad_operation)
 
 -- what follows the code of an operation, which is None where nothing is done. A code without operands is bad.
-abbrev pub operands : Frame → Addrs → Option Layout → Form ℕ (Option Oper)
+abbrev pub operands : Frame → Addresses → Option Layout → Form ℕ (Option Oper)
 operands frame addrs None = fails bad_operation
 operands frame addrs (Some (Layout.Plain o)) = nothing (Some (Oper.Machine o))
 operands frame addrs (Some Layout.Nop) = nothing None
 operands frame addrs (Some Layout.Address) = made (λ a. Some (Oper.Address a)) (number 8)
-operands frame addrs (Some Layout.AddressIndex) = follow uleb (λ i. address (address_at 8 addrs.section.now addrs.base i))
+operands frame addrs (Some Layout.AddressIndex) = follow uleb (λ i. address (address_at 8 addrs.section addrs.base i))
 operands frame addrs (Some (Layout.Constant w)) = made constant (number (bytes_in w))
 operands frame addrs (Some (Layout.SignedConstant w)) = made (λ n. constant (widened (bytes_in w) n)) (number (bytes_in w))
 operands frame addrs (Some Layout.ConstantLeb) = made constant uleb
@@ -76,5 +76,5 @@ abbrev pub any_value : {A : Type 0} → A → Option ℕ
 any_value v = None
 
 -- an operation, which is one item
-abbrev pub operation : Frame → Addrs → Form ℕ (Option Oper)
+abbrev pub operation : Frame → Addresses → Form ℕ (Option Oper)
 operation frame addrs = item (follow (number 1) (λ code. operands frame addrs (layout_of code))) any_value

@@ -4,7 +4,7 @@ use Rattle.std.specs.Int.{w64, cast_unsigned}
 use Rattle.snapshot_file.specs.declared.registers.Reg.{Reg}
 use Rattle.snapshot_file.specs.Registers.{width_of}
 use Rattle.expr_eval.specs.Addresses.{address_at}
-use Rattle.expr_eval.specs.declared.addresses.Addrs.{Addrs}
+use Rattle.expr_eval.specs.Addresses.{Addresses}
 use Rattle.expr_eval.specs.declared.operation.Op.TheVariants as op
 use Rattle.rv_bytes.specs.Rules.{outside}
 use Rattle.rv_bytes.specs.Readers.{got, bad, Reader, and_then, with_value, as_item}
@@ -55,12 +55,12 @@ abbrev pub read_sized : ℕ → Reader ℕ (Option Oper)
 read_sized size n s = if nat_lt 0 size && nat_le size 8 then got (Some (Oper.Machine (op.Deref size))) n s else bad bad_operation n
 
 -- the reader of `operands`
-abbrev pub read_operands : Frame → Addrs → Option Layout → Reader ℕ (Option Oper)
+abbrev pub read_operands : Frame → Addresses → Option Layout → Reader ℕ (Option Oper)
 read_operands frame addrs None n s = bad bad_operation n
 read_operands frame addrs (Some (Layout.Plain o)) n s = got (Some (Oper.Machine o)) n s
 read_operands frame addrs (Some Layout.Nop) n s = got None n s
 read_operands frame addrs (Some Layout.Address) n s = with_value (λ a. Some (Oper.Address a)) (read_number 8 n s)
-read_operands frame addrs (Some Layout.AddressIndex) n s = and_then (read_uleb n s) (λ i. read_address (address_at 8 addrs.section.now addrs.base i))
+read_operands frame addrs (Some Layout.AddressIndex) n s = and_then (read_uleb n s) (λ i. read_address (address_at 8 addrs.section addrs.base i))
 read_operands frame addrs (Some (Layout.Constant w)) n s = with_value constant (read_number (bytes_in w) n s)
 read_operands frame addrs (Some (Layout.SignedConstant w)) n s = with_value (λ v. constant (widened (bytes_in w) v)) (read_number (bytes_in w) n s)
 read_operands frame addrs (Some Layout.ConstantLeb) n s = with_value constant (read_uleb n s)
@@ -77,9 +77,9 @@ read_operands frame addrs (Some Layout.Value) n s = with_value (λ b. Some (Oper
 read_operands frame addrs (Some Layout.Entry) n s = with_value (λ _. Some (Oper.Machine op.Entry)) (and_then (read_uleb n s) read_bytes)
 
 -- the reader of a code, and of what follows it
-abbrev pub read_coded : Frame → Addrs → Reader ℕ (Option Oper)
+abbrev pub read_coded : Frame → Addresses → Reader ℕ (Option Oper)
 read_coded frame addrs n s = and_then (read_number 1 n s) (λ code. read_operands frame addrs (layout_of code))
 
 -- the reader of `operation`
-abbrev pub read_operation : Frame → Addrs → Reader ℕ (Option Oper)
+abbrev pub read_operation : Frame → Addresses → Reader ℕ (Option Oper)
 read_operation frame addrs n s = as_item any_value n (read_coded frame addrs n s)

@@ -1,7 +1,7 @@
 -- What is written of operations, and how it is read: DWARF 5, 2.5 and 7.7.1.
 use Rattle.std.specs.Prelude.{◌≡◌, ℕ, ℤ, ◌+◌, List, [], ◌∷◌, ◌++◌, length, map, Some, ◌⊎◌}
 use Rattle.snapshot_file.specs.declared.registers.Reg.{Reg}
-use Rattle.expr_eval.specs.declared.addresses.Addrs.{Addrs}
+use Rattle.expr_eval.specs.Addresses.{Addresses}
 use Rattle.expr_eval.specs.declared.operation.Op.{Op}
 use Rattle.expr_eval.specs.declared.operation.Op.TheVariants as op
 use Rattle.expr_bytes.specs.Registers.{number_of}
@@ -31,7 +31,7 @@ oper_by o = Oper.Machine o
 pub record ArePut (ops : List Op) (old new : List ℕ) : Type 0 where
   pub bytes : List ℕ
   pub appended : new ≡ old ++ bytes
-  pub stand : (frame : Frame) (addrs : Addrs) (n : ℕ) → StandAt frame addrs n (map (λ o. Some (oper_by o)) ops) bytes
+  pub stand : (frame : Frame) (addrs : Addresses) (n : ℕ) → StandAt frame addrs n (map (λ o. Some (oper_by o)) ops) bytes
 
 -- one sum of a register and a number that has at most 32 bits
 pub record IsShortSum (ops : List Op) (reg : Reg) (z : ℤ) : Type 0 where
@@ -48,5 +48,5 @@ IsReadAs ops place =
 pub record AppendsPlace (ops : List Op) (old new : List ℕ) : Type 0 where
   pub bytes : List ℕ
   pub appended : new ≡ old ++ bytes
-  pub says : (frame : Frame) (addrs : Addrs) (n : ℕ) (rest : List ℕ) (place : Simple) → Ends rest → IsReadAs ops place
+  pub says : (frame : Frame) (addrs : Addresses) (n : ℕ) (rest : List ℕ) (place : Simple) → Ends rest → IsReadAs ops place
       → TakesPlace frame addrs (record { at = n; rest = bytes ++ rest }) (record { at = n + length bytes; rest = rest }) place

@@ -2,7 +2,7 @@
 ghost use Rattle.std.specs.Prelude.{◌≡◌, true, Some, OnOk, OnErr};
 ghost use Rattle.rv_bytes.specs.Writers.{IsPut, Extends};
 ghost use Rattle.expr_eval.specs.Invariant.{is_sound, each_sound};
-ghost use Rattle.expr_eval.specs.declared.addresses.Addrs.{Addrs};
+ghost use Rattle.expr_eval.specs.Addresses.{Addresses};
 ghost use Rattle.expr_bytes.specs.Layouts.{layout_of};
 ghost use Rattle.expr_bytes.specs.Operands.{operands, operation};
 ghost use Rattle.expr_bytes.specs.Written.{layout_by, oper_by, ArePut, AppendsPlace};
@@ -52,7 +52,7 @@ pub fn code_of(op: Op) -> u8
 /// What follows the code of an operation. Out of memory, a front of it may be there.
 fn put_operands(out: &mut Buf, op: Op) -> Result<(), Memory>
     requires { is_sound op ≡ true }
-    ensures put { (frame : Frame) (addrs : Addrs) → OnOk result (IsPut (operands frame addrs (Some (layout_by op))) (Some (oper_by op)) out.old out.new) }
+    ensures put { (frame : Frame) (addrs : Addresses) → OnOk result (IsPut (operands frame addrs (Some (layout_by op))) (Some (oper_by op)) out.old out.new) }
     ensures kept { Extends out.old out.new }
 {
     match op {
@@ -69,7 +69,7 @@ fn put_operands(out: &mut Buf, op: Op) -> Result<(), Memory>
 /// An operation. Out of memory, a front of it may be there.
 fn put_op(out: &mut Buf, op: Op) -> Result<(), Memory>
     requires { is_sound op ≡ true }
-    ensures put { (frame : Frame) (addrs : Addrs) → OnOk result (IsPut (operation frame addrs) (Some (oper_by op)) out.old out.new) }
+    ensures put { (frame : Frame) (addrs : Addresses) → OnOk result (IsPut (operation frame addrs) (Some (oper_by op)) out.old out.new) }
     ensures kept { Extends out.old out.new }
 {
     put_u8(out, code_of(op))?;

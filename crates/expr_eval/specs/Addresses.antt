@@ -3,6 +3,11 @@ use Rattle.std.specs.Prelude.{ℕ, ◌+◌, ◌*◌, nat_le, if◌then◌else◌
 use Rattle.std.specs.List.{slice_range}
 use Rattle.expr_eval.specs.Results.{little_endian}
 
+-- the addresses that indexes name: the bytes of `.debug_addr`, and where the unit's start in it
+pub record Addresses : Type 0 where
+  pub section : List ℕ
+  pub base : Option ℕ
+
 -- the address of `ptr` bytes at a place of the section, if it is there whole
 abbrev pub address_from : ℕ → List ℕ → ℕ → Option ℕ
 address_from ptr section at = if nat_le (at + ptr) (length section) then Some (little_endian (slice_range section at (at + ptr))) else None

@@ -8,7 +8,7 @@ use Rattle.rv_bytes.specs.Places.{Place}
 use Rattle.rv_bytes.specs.Forms.{Splits}
 use Rattle.rv_bytes.specs.Reads.{Takes, IsRefusedBy}
 use Rattle.rv_bytes.specs.declared.err.DwErr.{DwErr}
-use Rattle.expr_eval.specs.declared.addresses.Addrs.{Addrs}
+use Rattle.expr_eval.specs.Addresses.{Addresses}
 use Rattle.expr_bytes.specs.Rules.{bad_order, no_frame}
 use Rattle.expr_bytes.specs.Operations.{Oper, oper_of}
 use Rattle.expr_bytes.specs.declared.operation.Operation.{Operation}
@@ -25,12 +25,12 @@ use Rattle.expr_reader.proofs.Readings.{none_at_end}
 -- one operation
 
 -- what is out of order
-pub order_refused : (frame : Frame) (addrs : Addrs) (before : List Oper) (old new : Place) (o : Oper) → Takes (operation frame addrs) old new (Some o) → ¬ BeginPermitted (before ++ o ∷ [])
+pub order_refused : (frame : Frame) (addrs : Addresses) (before : List Oper) (old new : Place) (o : Oper) → Takes (operation frame addrs) old new (Some o) → ¬ BeginPermitted (before ++ o ∷ [])
     → IsInvalid frame addrs before old.at old.rest bad_order
 order_refused frame addrs before old new o w n = inr (o, record { front = w.spelling; back = new.rest; split = w.bytes; is_front = w.spells; is_back = inl (inl n, refl) })
 
 -- what is in order, and has no frame base
-pub frame_refused : (frame : Frame) (addrs : Addrs) (before : List Oper) (old new : Place) (o : Oper) → Takes (operation frame addrs) old new (Some o) → BeginPermitted (before ++ o ∷ []) → IsUnframed o
+pub frame_refused : (frame : Frame) (addrs : Addresses) (before : List Oper) (old new : Place) (o : Oper) → Takes (operation frame addrs) old new (Some o) → BeginPermitted (before ++ o ∷ []) → IsUnframed o
     → IsInvalid frame addrs before old.at old.rest no_frame
 frame_refused frame addrs before old new o w b u =
     inr (o, record { front = w.spelling; back = new.rest; split = w.bytes; is_front = w.spells; is_back = inr ((λ x. elim x [ inl n ↦ n b | inr e ↦ unframed_says before o u b e.1 ]), (u, refl)) })
@@ -43,18 +43,18 @@ listed opers all slice x e f = ap (λ l. map oper_of l) (e ∙ f) ∙ map-append
 begins : (opers all slice : List Operation) (x : Operation) (b : Bool) → slice ≡ all → all ≡ opers ++ x ∷ [] → Decides b (BeginPermitted (map oper_of slice)) → Decides b (BeginPermitted (map oper_of opers ++ oper_of x ∷ []))
 begins opers all slice x b e f d = subst (λ os. Decides b (BeginPermitted os)) (listed opers all slice x e f) d
 
-pub order_answer : (frame : Frame) (addrs : Addrs) (old new : Place) (opers all slice : List Operation) (x : Operation) (b : Bool) (at : ℕ) (e : DwErr) → Takes (operation frame addrs) old new (Some (oper_of x)) → slice ≡ all
+pub order_answer : (frame : Frame) (addrs : Addresses) (old new : Place) (opers all slice : List Operation) (x : Operation) (b : Bool) (at : ℕ) (e : DwErr) → Takes (operation frame addrs) old new (Some (oper_of x)) → slice ≡ all
     → all ≡ opers ++ x ∷ [] → Decides b (BeginPermitted (map oper_of slice)) → b ≡ false → at ≡ old.at → e ≡ DwErr.Refused at bad_order → IsRefusedAfter frame addrs (map oper_of opers) old e
 order_answer frame addrs old new opers all slice x b at e w p q d f i r =
     rw r (i, order_refused frame addrs (map oper_of opers) old new (oper_of x) w (not_from_Decides b (begins opers all slice x b p q d) f))
 
-pub frame_answer : (frame : Frame) (addrs : Addrs) (old new : Place) (opers all slice : List Operation) (x : Operation) (b u : Bool) (at : ℕ) (e : DwErr) → Takes (operation frame addrs) old new (Some (oper_of x)) → slice ≡ all
+pub frame_answer : (frame : Frame) (addrs : Addresses) (old new : Place) (opers all slice : List Operation) (x : Operation) (b u : Bool) (at : ℕ) (e : DwErr) → Takes (operation frame addrs) old new (Some (oper_of x)) → slice ≡ all
     → all ≡ opers ++ x ∷ [] → Decides b (BeginPermitted (map oper_of slice)) → b ≡ true → Decides u (IsUnframed (oper_of x)) → u ≡ true → at ≡ old.at → e ≡ DwErr.Refused at no_frame
     → IsRefusedAfter frame addrs (map oper_of opers) old e
 frame_answer frame addrs old new opers all slice x b u at e w p q d f v g i r =
     rw r (i, frame_refused frame addrs (map oper_of opers) old new (oper_of x) w ((begins opers all slice x b p q d).0 f) (v.0 g))
 
-pub read_answer : (frame : Frame) (addrs : Addrs) (old new : Place) (opers all slice : List Operation) (x : Operation) (b u : Bool) (last at : ℕ) → Takes (operation frame addrs) old new (Some (oper_of x)) → slice ≡ all
+pub read_answer : (frame : Frame) (addrs : Addresses) (old new : Place) (opers all slice : List Operation) (x : Operation) (b u : Bool) (last at : ℕ) → Takes (operation frame addrs) old new (Some (oper_of x)) → slice ≡ all
     → all ≡ opers ++ x ∷ [] → Decides b (BeginPermitted (map oper_of slice)) → b ≡ true → Decides u (IsUnframed (oper_of x)) → u ≡ false → at ≡ old.at
     → GoesOn frame addrs old new (map oper_of opers) (map oper_of all) last at
 read_answer frame addrs old new opers all slice x b u last at w p q d f v g i =
@@ -62,7 +62,7 @@ read_answer frame addrs old new opers all slice x b u last at w p q d f v g i =
 
 -- operations one after the other
 
-stand_push : (frame : Frame) (addrs : Addrs) (n : ℕ) (os : List (Option Oper)) (o : Option Oper) (t u : List ℕ) → StandAt frame addrs n os t
+stand_push : (frame : Frame) (addrs : Addresses) (n : ℕ) (os : List (Option Oper)) (o : Option Oper) (t u : List ℕ) → StandAt frame addrs n os t
     → (operation frame addrs).spells (n + length t) o u → StandAt frame addrs n (os ++ o ∷ []) (t ++ u)
 stand_push frame addrs n [] o t u h w =
     rw h (record { front = u; back = []; split = sym (append-nil u); is_front = subst (λ m. (operation frame addrs).spells m o u) (ap (λ l. n + length l) h ∙ add-zero n) w; is_back = refl })
@@ -109,7 +109,7 @@ no_frames : AreFramed []
 no_frames [] after o e = cc
 no_frames (b ∷ before) after o e = cc
 
-pub none_read : (frame : Frame) (addrs : Addrs) (old : Place) (last : ℕ) → HasRead frame addrs old old [] last
+pub none_read : (frame : Frame) (addrs : Addresses) (old : Place) (last : ℕ) → HasRead frame addrs old old [] last
 none_read frame addrs old last = record {
   all = [];
   spelling = [];
@@ -122,7 +122,7 @@ none_read frame addrs old last = record {
 }
 
 -- the last operation that does something stands where it stood, or it is this one
-last_then : (frame : Frame) (addrs : Addrs) (old mid new : Place) (opers after : List Oper) (last now_last : ℕ) (h : HasRead frame addrs old mid opers last) (v : Option Oper) → Takes (operation frame addrs) mid new v
+last_then : (frame : Frame) (addrs : Addresses) (old mid new : Place) (opers after : List Oper) (last now_last : ℕ) (h : HasRead frame addrs old mid opers last) (v : Option Oper) → Takes (operation frame addrs) mid new v
     → after ≡ opers ++ added v → now_last ≡ last_by v last mid.at → (after ≡ []) ⊎ LastStands frame addrs old new after now_last
 last_then frame addrs old mid new opers after last now_last h None w e p = elim h.last_stands [
   | inl x ↦ inl (e ∙ append-nil opers ∙ x)
@@ -170,7 +170,7 @@ last_then frame addrs old mid new opers after last now_last h (Some o) w e p = i
   then_nop = record { front = w.spelling; back = new.rest; split = w.bytes; is_front = subst (λ n. (operation frame addrs).spells n (Some o) w.spelling) (sym p) w.spells; is_back = (0, record { front = []; back = new.rest; split = refl; is_front = refl; is_back = refl }) };
 })
 
-pub one_more : (frame : Frame) (addrs : Addrs) (old mid new : Place) (opers after : List Oper) (last now_last : ℕ) → HasRead frame addrs old mid opers last → GoesOn frame addrs mid new opers after last now_last
+pub one_more : (frame : Frame) (addrs : Addresses) (old mid new : Place) (opers after : List Oper) (last now_last : ℕ) → HasRead frame addrs old mid opers last → GoesOn frame addrs mid new opers after last now_last
     → HasRead frame addrs old new after now_last
 one_more frame addrs old mid new opers after last now_last h g = record {
   all = h.all ++ g.oper ∷ [];
@@ -185,7 +185,7 @@ one_more frame addrs old mid new opers after last now_last h g = record {
 
 -- the end
 
-pub place_taken : (frame : Frame) (addrs : Addrs) (old new : Place) (opers : List Oper) (last : ℕ) (place : Simple) → HasRead frame addrs old new opers last → Ends new.rest → SaidBy opers place → TakesPlace frame addrs old new place
+pub place_taken : (frame : Frame) (addrs : Addresses) (old new : Place) (opers : List Oper) (last : ℕ) (place : Simple) → HasRead frame addrs old new opers last → Ends new.rest → SaidBy opers place → TakesPlace frame addrs old new place
 place_taken frame addrs old new opers last place h e s = record {
   opers = h.all;
   spelling = h.spelling;
@@ -198,7 +198,7 @@ place_taken frame addrs old new opers last place h e s = record {
 }
 
 -- the refusal of an operation after others
-pub next_fault : (frame : Frame) (addrs : Addrs) (old mid : Place) (opers : List Oper) (last : ℕ) (e : DwErr) → HasRead frame addrs old mid opers last → ¬ Ends mid.rest → IsRefusedAfter frame addrs opers mid e → IsRefusedOf frame addrs old e
+pub next_fault : (frame : Frame) (addrs : Addresses) (old mid : Place) (opers : List Oper) (last : ℕ) (e : DwErr) → HasRead frame addrs old mid opers last → ¬ Ends mid.rest → IsRefusedAfter frame addrs opers mid e → IsRefusedOf frame addrs old e
 next_fault frame addrs old mid opers last (DwErr.Refused offset rule) h g r = record {
   opers = h.all;
   front = h.spelling;
@@ -213,7 +213,7 @@ next_fault frame addrs old mid opers last (DwErr.Refused offset rule) h g r = re
 next_fault frame addrs old mid opers last DwErr.Memory h g r = tt
 
 -- the last operation, where they say no place
-last_invalid : (frame : Frame) (addrs : Addrs) (old new : Place) (opers : List Oper) (last : ℕ) → LastStands frame addrs old new opers last → AreInOrder opers → Ends new.rest → ¬ ArePermitted opers → IsFaultAt frame addrs old bad_order last
+last_invalid : (frame : Frame) (addrs : Addresses) (old new : Place) (opers : List Oper) (last : ℕ) → LastStands frame addrs old new opers last → AreInOrder opers → Ends new.rest → ¬ ArePermitted opers → IsFaultAt frame addrs old bad_order last
 last_invalid frame addrs old new opers last l a e n =
     let s = l.then_nop in
     let r = s.is_back.1 in
@@ -238,7 +238,7 @@ last_invalid frame addrs old new opers last l a e n =
       );
     }
 
-pub last_fault : (frame : Frame) (addrs : Addrs) (old new : Place) (opers : List Oper) (last : ℕ) (e : DwErr) → HasRead frame addrs old new opers last → Ends new.rest → IsRefusedLast opers last e → IsRefusedOf frame addrs old e
+pub last_fault : (frame : Frame) (addrs : Addresses) (old new : Place) (opers : List Oper) (last : ℕ) (e : DwErr) → HasRead frame addrs old new opers last → Ends new.rest → IsRefusedLast opers last e → IsRefusedOf frame addrs old e
 last_fault frame addrs old new opers last (DwErr.Refused offset rule) h e r = elim h.last_stands [
   | inl x ↦ absurd (r.1.1.0 x)
   | inr l ↦ subst (λ at. IsFaultAt frame addrs old rule at) (sym r.0) (subst (λ k. IsFaultAt frame addrs old k last) (sym r.1.0) (last_invalid frame addrs old new opers last l h.in_order e r.1.1.1))
@@ -247,12 +247,12 @@ last_fault frame addrs old new opers last DwErr.Memory h e r = tt
 
 -- what the call answers at the end
 
-pub end_taken : (frame : Frame) (addrs : Addrs) (old new : Place) (opers slice : List Operation) (last : ℕ) (r : Result Simple DwErr) → HasRead frame addrs old new (map oper_of opers) last → Ends new.rest → slice ≡ opers
+pub end_taken : (frame : Frame) (addrs : Addresses) (old new : Place) (opers slice : List Operation) (last : ℕ) (r : Result Simple DwErr) → HasRead frame addrs old new (map oper_of opers) last → Ends new.rest → slice ≡ opers
     → IfOk r (SaidBy (map oper_of slice)) → IfOk r (TakesPlace frame addrs old new)
 end_taken frame addrs old new opers slice last (Ok place) h e q s = place_taken frame addrs old new (map oper_of opers) last place h e (subst (λ l. SaidBy (map oper_of l) place) q s)
 end_taken frame addrs old new opers slice last (Err f) h e q s = tt
 
-pub end_refused : (frame : Frame) (addrs : Addrs) (old new : Place) (opers slice : List Operation) (last : ℕ) (r : Result Simple DwErr) → HasRead frame addrs old new (map oper_of opers) last → Ends new.rest → slice ≡ opers
+pub end_refused : (frame : Frame) (addrs : Addresses) (old new : Place) (opers slice : List Operation) (last : ℕ) (r : Result Simple DwErr) → HasRead frame addrs old new (map oper_of opers) last → Ends new.rest → slice ≡ opers
     → IfErr r (IsRefusedLast (map oper_of slice) last) → IfErr r (IsRefusedOf frame addrs old)
 end_refused frame addrs old new opers slice last (Ok place) h e q s = tt
 end_refused frame addrs old new opers slice last (Err f) h e q s = last_fault frame addrs old new (map oper_of opers) last f h e (subst (λ l. IsRefusedLast (map oper_of l) last f) q s)

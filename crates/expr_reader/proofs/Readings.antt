@@ -5,7 +5,7 @@ use Rattle.byteorder.specs.Endian.{little_number}
 use Rattle.rv_bytes.specs.Places.{Place}
 use Rattle.rv_bytes.specs.Rules.{short}
 use Rattle.rv_bytes.proofs.Exact.{one_value, one_fault, never_both}
-use Rattle.expr_eval.specs.declared.addresses.Addrs.{Addrs}
+use Rattle.expr_eval.specs.Addresses.{Addresses}
 use Rattle.expr_bytes.specs.Codes as code
 use Rattle.expr_bytes.specs.Rules.{bad_operation}
 use Rattle.expr_bytes.specs.Layouts.{layout_of}
@@ -25,13 +25,13 @@ use Rattle.expr_reader.proofs.Begins.{front_begins}
 
 -- one operation
 
-same_operation : (frame : Frame) (addrs : Addrs) (n : ℕ) (v w : Option Oper) (t u k l : List ℕ) → (operation frame addrs).spells n v t → (operation frame addrs).spells n w u → t ++ k ≡ u ++ l → (v ≡ w) × (k ≡ l)
+same_operation : (frame : Frame) (addrs : Addresses) (n : ℕ) (v w : Option Oper) (t u k l : List ℕ) → (operation frame addrs).spells n v t → (operation frame addrs).spells n w u → t ++ k ≡ u ++ l → (v ≡ w) × (k ≡ l)
 same_operation frame addrs n v w t u k l h g e = one_value (operation frame addrs) (read_operation frame addrs) (operation_exact frame addrs) n v w t u k l h g e
 
-same_fault : (frame : Frame) (addrs : Addrs) (n : ℕ) (s : List ℕ) (r q m k : ℕ) → (operation frame addrs).faults n s r m → (operation frame addrs).faults n s q k → (r ≡ q) × (m ≡ k)
+same_fault : (frame : Frame) (addrs : Addresses) (n : ℕ) (s : List ℕ) (r q m k : ℕ) → (operation frame addrs).faults n s r m → (operation frame addrs).faults n s q k → (r ≡ q) × (m ≡ k)
 same_fault frame addrs n s r q m k h g = one_fault (operation frame addrs) (read_operation frame addrs) (operation_exact frame addrs) n s r q m k h g
 
-no_fault : (frame : Frame) (addrs : Addrs) (n : ℕ) (v : Option Oper) (s t k : List ℕ) (r m : ℕ) → (operation frame addrs).spells n v t → s ≡ t ++ k → (operation frame addrs).faults n s r m → ⊥
+no_fault : (frame : Frame) (addrs : Addresses) (n : ℕ) (v : Option Oper) (s t k : List ℕ) (r m : ℕ) → (operation frame addrs).spells n v t → s ≡ t ++ k → (operation frame addrs).faults n s r m → ⊥
 no_fault frame addrs n v s t k r m h e g =
     never_both (operation frame addrs) (read_operation frame addrs) (operation_exact frame addrs) n v t k r m h (subst (λ l. (operation frame addrs).faults n l r m) e g)
 
@@ -44,12 +44,12 @@ byte_is : (b : ℕ) → b ≡ code.piece → code.piece ≡ little_number 1 (b �
 byte_is b h = rw h refl
 
 -- none stands where a place ends
-end_faults : (frame : Frame) (addrs : Addrs) (n : ℕ) (s : List ℕ) → Ends s → (r : ℕ) × (operation frame addrs).faults n s r n
+end_faults : (frame : Frame) (addrs : Addresses) (n : ℕ) (s : List ℕ) → Ends s → (r : ℕ) × (operation frame addrs).faults n s r n
 end_faults frame addrs n [] h = (short, (refl, inl (n, inl (omega arith, (refl, refl)))))
 end_faults frame addrs n (b ∷ s) h =
     (bad_operation, (refl, inl (n + length (b ∷ []), inr (code.piece, record { front = b ∷ []; back = s; split = refl; is_front = (b ∷ [], (byte_is b h, (refl, refl))); is_back = rw no_piece (refl, refl) }))))
 
-pub none_at_end : (frame : Frame) (addrs : Addrs) (n : ℕ) (v : Option Oper) (s t k : List ℕ) → Ends s → (operation frame addrs).spells n v t → s ≡ t ++ k → ⊥
+pub none_at_end : (frame : Frame) (addrs : Addresses) (n : ℕ) (v : Option Oper) (s t k : List ℕ) → Ends s → (operation frame addrs).spells n v t → s ≡ t ++ k → ⊥
 none_at_end frame addrs n v s t k h g e = let w = end_faults frame addrs n s h in no_fault frame addrs n v s t k w.0 n g e w.1
 
 -- places after bytes that are as many
@@ -57,7 +57,7 @@ lengths : (t u k l : List ℕ) → t ++ k ≡ u ++ l → k ≡ l → length t �
 lengths t u k l e f = omega (arith, ap length e, ap length f, length-append t k, length-append u l)
 
 -- the long ones are the short ones, before the bytes k at place m, and then another and more, before the bytes l at place n
-record Longer (frame : Frame) (addrs : Addrs) (m : ℕ) (short : List (Option Oper)) (k : List ℕ) (n : ℕ) (long : List (Option Oper)) (l : List ℕ) : Type 0 where
+record Longer (frame : Frame) (addrs : Addresses) (m : ℕ) (short : List (Option Oper)) (k : List ℕ) (n : ℕ) (long : List (Option Oper)) (l : List ℕ) : Type 0 where
   o : Option Oper
   more : List (Option Oper)
   is : long ≡ short ++ o ∷ more
@@ -69,16 +69,16 @@ record Longer (frame : Frame) (addrs : Addrs) (m : ℕ) (short : List (Option Op
   past : n ≡ m + length t + length u
 
 -- of operations in the same bytes both are the same, or some are longer
-abbrev Compared : Frame → Addrs → ℕ → List (Option Oper) → List ℕ → ℕ → List (Option Oper) → List ℕ → Type 0
+abbrev Compared : Frame → Addresses → ℕ → List (Option Oper) → List ℕ → ℕ → List (Option Oper) → List ℕ → Type 0
 Compared frame addrs m a k n b l = ((a ≡ b) × (k ≡ l)) ⊎ (Longer frame addrs m a k n b l ⊎ Longer frame addrs n b l m a k)
 
 -- one more in front
-longer_by : (frame : Frame) (addrs : Addrs) (m n : ℕ) (x y : Option Oper) (a b : List (Option Oper)) (k l : List ℕ) → x ≡ y → Longer frame addrs m a k n b l → Longer frame addrs m (x ∷ a) k n (y ∷ b) l
+longer_by : (frame : Frame) (addrs : Addresses) (m n : ℕ) (x y : Option Oper) (a b : List (Option Oper)) (k l : List ℕ) → x ≡ y → Longer frame addrs m a k n b l → Longer frame addrs m (x ∷ a) k n (y ∷ b) l
 longer_by frame addrs m n x y a b k l e h =
     record { o = h.o; more = h.more; is = rw e (ap (λ z. y ∷ z) h.is); t = h.t; u = h.u; spells = h.spells; stand = h.stand; bytes = h.bytes; past = h.past }
 
 -- others go on where none stand
-longer_than_none : (frame : Frame) (addrs : Addrs) (n m j : ℕ) (t k u l : List ℕ) (o : Option Oper) (b : List (Option Oper)) → t ≡ [] → StandAt frame addrs n (o ∷ b) u → m ≡ n + length t → j ≡ n + length u → t ++ k ≡ u ++ l
+longer_than_none : (frame : Frame) (addrs : Addresses) (n m j : ℕ) (t k u l : List ℕ) (o : Option Oper) (b : List (Option Oper)) → t ≡ [] → StandAt frame addrs n (o ∷ b) u → m ≡ n + length t → j ≡ n + length u → t ++ k ≡ u ++ l
     → Longer frame addrs m [] k j (o ∷ b) l
 longer_than_none frame addrs n m j t k u l o b h g p p2 e =
     let q : n ≡ m = omega (arith, p, ap length h) in
@@ -99,7 +99,7 @@ longer_than_none frame addrs n m j t k u l o b h g p p2 e =
 same_rest : (t k u l : List ℕ) → t ≡ [] → u ≡ [] → t ++ k ≡ u ++ l → k ≡ l
 same_rest t k u l h g e = sym (ap (λ w. w ++ k) h) ∙ e ∙ ap (λ w. w ++ l) g
 
-compare_stands : (frame : Frame) (addrs : Addrs) (n i j : ℕ) (a b : List (Option Oper)) (t k u l : List ℕ) → StandAt frame addrs n a t → StandAt frame addrs n b u → i ≡ n + length t → j ≡ n + length u → t ++ k ≡ u ++ l
+compare_stands : (frame : Frame) (addrs : Addresses) (n i j : ℕ) (a b : List (Option Oper)) (t k u l : List ℕ) → StandAt frame addrs n a t → StandAt frame addrs n b u → i ≡ n + length t → j ≡ n + length u → t ++ k ≡ u ++ l
     → Compared frame addrs i a k j b l
 compare_stands frame addrs n i j [] [] t k u l h g p q e = inl (refl, same_rest t k u l h g e)
 compare_stands frame addrs n i j [] (y ∷ b) t k u l h g p q e = inr (inl (longer_than_none frame addrs n i j t k u l y b h g p q e))
@@ -163,14 +163,14 @@ says_none (x ∷ opers) o place (inl h) n = let e = h.0 in cc
 says_none opers o place (inr h) n = n (place, h)
 
 -- a rule broken by one operation
-breaks_same : (frame : Frame) (addrs : Addrs) (before : List Oper) (o : Oper) (r q n : ℕ) (after : List ℕ) → Breaks frame addrs before o r n after → Breaks frame addrs before o q n after → r ≡ q
+breaks_same : (frame : Frame) (addrs : Addresses) (before : List Oper) (o : Oper) (r q n : ℕ) (after : List ℕ) → Breaks frame addrs before o r n after → Breaks frame addrs before o q n after → r ≡ q
 breaks_same frame addrs before o r q n after (inl h) (inl g) = h.1 ∙ sym g.1
 breaks_same frame addrs before o r q n after (inl h) (inr g) = absurd (g.0 h.0)
 breaks_same frame addrs before o r q n after (inr h) (inl g) = absurd (h.0 g.0)
 breaks_same frame addrs before o r q n after (inr h) (inr g) = h.1.1 ∙ sym g.1.1
 
 -- where others follow that are in order, only the end of the place is in the way
-only_at_end : (frame : Frame) (addrs : Addrs) (before : List Oper) (o : Oper) (more : List Oper) (r n : ℕ) (after : List ℕ) → Breaks frame addrs before o r n after → AreFramed (before ++ o ∷ more)
+only_at_end : (frame : Frame) (addrs : Addresses) (before : List Oper) (o : Oper) (more : List Oper) (r n : ℕ) (after : List ℕ) → Breaks frame addrs before o r n after → AreFramed (before ++ o ∷ more)
     → BeginPermitted (before ++ o ∷ more) → EndsAfterNop frame addrs n after × ¬ ArePermitted (before ++ o ∷ [])
 only_at_end frame addrs before o more r n after (inr h) f b = absurd (f before more o refl h.1.0)
 only_at_end frame addrs before o more r n after (inl h) f b = elim h.0 [
@@ -179,7 +179,7 @@ only_at_end frame addrs before o more r n after (inl h) f b = elim h.0 [
 ]
 
 -- an operation after the short ones is the last of its place and they say none, where more follow it from this place on
-record IsLast (frame : Frame) (addrs : Addrs) (at : ℕ) (short more long : List (Option Oper)) (rest : List ℕ) : Type 0 where
+record IsLast (frame : Frame) (addrs : Addresses) (at : ℕ) (short more long : List (Option Oper)) (rest : List ℕ) : Type 0 where
   o : Oper
   is : done_by long ≡ done_by short ++ o ∷ done_by more
   ends : EndsAfterNop frame addrs at rest
@@ -188,7 +188,7 @@ record IsLast (frame : Frame) (addrs : Addrs) (at : ℕ) (short more long : List
 done_split : (short more : List (Option Oper)) (o : Oper) → done_by (short ++ Some o ∷ more) ≡ done_by short ++ o ∷ done_by more
 done_split short more o = filter_map-append (λ o. o) short (Some o ∷ more)
 
-is_last : (frame : Frame) (addrs : Addrs) (m : ℕ) (short : List (Option Oper)) (k : List ℕ) (n : ℕ) (long : List (Option Oper)) (l : List ℕ) (r : ℕ) (w : Longer frame addrs m short k n long l) → IsInvalid frame addrs (done_by short) m k r
+is_last : (frame : Frame) (addrs : Addresses) (m : ℕ) (short : List (Option Oper)) (k : List ℕ) (n : ℕ) (long : List (Option Oper)) (l : List ℕ) (r : ℕ) (w : Longer frame addrs m short k n long l) → IsInvalid frame addrs (done_by short) m k r
     → AreFramed (done_by long) → ((o : Oper) → done_by long ≡ done_by short ++ o ∷ done_by w.more → BeginPermitted (done_by long)) → IsLast frame addrs (m + length w.t) short w.more long (w.u ++ l)
 is_last frame addrs m short k n long l r w (inl h) f b = absurd (no_fault frame addrs m w.o k w.t (w.u ++ l) r m w.spells w.bytes h)
 is_last frame addrs m short k n long l r w (inr h) f b =
@@ -219,7 +219,7 @@ none_in (suc count) [] v b e = cc
 none_in (suc count) (x ∷ a) v b e = let q : replicate count None ≡ a ++ v ∷ b = cc in none_in count a v b q
 
 -- nothing that does something is invalid where an operation that does nothing stands
-no_invalid : (frame : Frame) (addrs : Addrs) (before : List Oper) (m r : ℕ) (k t u : List ℕ) (v : Option Oper) → v ≡ None → (operation frame addrs).spells m v t → k ≡ t ++ u → IsInvalid frame addrs before m k r → ⊥
+no_invalid : (frame : Frame) (addrs : Addresses) (before : List Oper) (m r : ℕ) (k t u : List ℕ) (v : Option Oper) → v ≡ None → (operation frame addrs).spells m v t → k ≡ t ++ u → IsInvalid frame addrs before m k r → ⊥
 no_invalid frame addrs before m r k t u v e h b (inl g) = no_fault frame addrs m v k t u r m h b g
 no_invalid frame addrs before m r k t u v e h b (inr g) =
     let s = g.1 in
@@ -232,7 +232,7 @@ no_invalid frame addrs before m r k t u v e h b (inr g) =
 same_ends : (m n : Place) (a b c : ℕ) → m.rest ≡ n.rest → m.at ≡ a + b → n.at ≡ a + c → b ≡ c → m ≡ n
 same_ends m n a b c e p q d = let z : m.at ≡ n.at = omega (arith, p, q, d) in ap (λ at. record { at = at; rest = m.rest }) z ∙ ap (λ rest. record { at = n.at; rest = rest }) e
 
-one_place : (frame : Frame) (addrs : Addrs) (old m n : Place) (p q : Simple) → TakesPlace frame addrs old m p → TakesPlace frame addrs old n q → (m ≡ n) × (p ≡ q)
+one_place : (frame : Frame) (addrs : Addresses) (old m n : Place) (p q : Simple) → TakesPlace frame addrs old m p → TakesPlace frame addrs old n q → (m ≡ n) × (p ≡ q)
 one_place frame addrs old m n p q a b =
     let e : a.spelling ++ m.rest ≡ b.spelling ++ n.rest = sym a.bytes ∙ b.bytes in
     elim (compare_stands frame addrs old.at m.at n.at a.opers b.opers a.spelling m.rest b.spelling n.rest a.stand b.stand a.past b.past e) [
@@ -243,7 +243,7 @@ one_place frame addrs old m n p q a b =
       ]
     ]
 
-invalid_same : (frame : Frame) (addrs : Addrs) (before : List Oper) (n r q : ℕ) (s : List ℕ) → IsInvalid frame addrs before n s r → IsInvalid frame addrs before n s q → r ≡ q
+invalid_same : (frame : Frame) (addrs : Addresses) (before : List Oper) (n r q : ℕ) (s : List ℕ) → IsInvalid frame addrs before n s r → IsInvalid frame addrs before n s q → r ≡ q
 invalid_same frame addrs before n r q s (inl h) (inl g) = (same_fault frame addrs n s r q n n h g).0
 invalid_same frame addrs before n r q s (inl h) (inr g) = absurd (no_fault frame addrs n (Some g.0) s g.1.front g.1.back r n g.1.is_front g.1.split h)
 invalid_same frame addrs before n r q s (inr h) (inl g) = absurd (no_fault frame addrs n (Some h.0) s h.1.front h.1.back q n h.1.is_front h.1.split g)
@@ -259,7 +259,7 @@ invalid_same frame addrs before n r q s (inr h) (inr g) =
     breaks_same frame addrs before g.0 r q (n + length b.front) b.back x b.is_back
 
 -- no fault stands before another
-no_earlier : (frame : Frame) (addrs : Addrs) (m : ℕ) (short : List (Option Oper)) (k : List ℕ) (n : ℕ) (long : List (Option Oper)) (l : List ℕ) (r q : ℕ) → Longer frame addrs m short k n long l → IsInvalid frame addrs (done_by short) m k r
+no_earlier : (frame : Frame) (addrs : Addresses) (m : ℕ) (short : List (Option Oper)) (k : List ℕ) (n : ℕ) (long : List (Option Oper)) (l : List ℕ) (r q : ℕ) → Longer frame addrs m short k n long l → IsInvalid frame addrs (done_by short) m k r
     → AreInOrder (done_by long) → ¬ Ends l → IsInvalid frame addrs (done_by long) n l q → ⊥
 no_earlier frame addrs m short k n long l r q w h p g i =
     let a = is_last frame addrs m short k n long l r w h p.framed (λ o e. p.begin) in
@@ -274,7 +274,7 @@ no_earlier frame addrs m short k n long l r q w h p g i =
       ]
     ]
 
-one_first : (frame : Frame) (addrs : Addrs) (old : Place) (rule other at spot : ℕ) → IsFaultAt frame addrs old rule at → IsFaultAt frame addrs old other spot → (rule ≡ other) × (at ≡ spot)
+one_first : (frame : Frame) (addrs : Addresses) (old : Place) (rule other at spot : ℕ) → IsFaultAt frame addrs old rule at → IsFaultAt frame addrs old other spot → (rule ≡ other) × (at ≡ spot)
 one_first frame addrs old rule other at spot a b =
     let e : a.front ++ a.back ≡ b.front ++ b.back = sym a.bytes ∙ b.bytes in
     elim (compare_stands frame addrs old.at at spot a.opers b.opers a.front a.back b.front b.back a.stand b.stand a.past b.past e) [
@@ -290,7 +290,7 @@ one_first frame addrs old rule other at spot a b =
     ]
 
 -- a place has no fault before its end
-no_fault_before : (frame : Frame) (addrs : Addrs) (m : ℕ) (short : List (Option Oper)) (k : List ℕ) (n : ℕ) (long : List (Option Oper)) (l : List ℕ) (r : ℕ) (place : Simple) → Longer frame addrs m short k n long l → IsInvalid frame addrs (done_by short) m k r
+no_fault_before : (frame : Frame) (addrs : Addresses) (m : ℕ) (short : List (Option Oper)) (k : List ℕ) (n : ℕ) (long : List (Option Oper)) (l : List ℕ) (r : ℕ) (place : Simple) → Longer frame addrs m short k n long l → IsInvalid frame addrs (done_by short) m k r
     → AreFramed (done_by long) → SaidBy (done_by long) place → Ends l → ⊥
 no_fault_before frame addrs m short k n long l r place w h f say ends =
     let a = is_last frame addrs m short k n long l r w h f (λ o e. subst (λ os. BeginPermitted os) (sym e) (said_begin (done_by short) o (done_by w.more) place (subst (λ os. SaidBy os place) e say))) in
@@ -308,7 +308,7 @@ no_fault_before frame addrs m short k n long l r place w h f say ends =
       ]
     ]
 
-no_place_and_fault : (frame : Frame) (addrs : Addrs) (old new : Place) (place : Simple) (rule at : ℕ) → TakesPlace frame addrs old new place → ¬ IsFaultAt frame addrs old rule at
+no_place_and_fault : (frame : Frame) (addrs : Addresses) (old new : Place) (place : Simple) (rule at : ℕ) → TakesPlace frame addrs old new place → ¬ IsFaultAt frame addrs old rule at
 no_place_and_fault frame addrs old new place rule at a b =
     elim (compare_stands frame addrs old.at new.at at a.opers b.opers a.spelling new.rest b.front b.back a.stand b.stand a.past b.past (sym a.bytes ∙ b.bytes)) [
       | inl w ↦ b.goes_on (subst (λ z. Ends z) w.1 a.ends)
@@ -318,7 +318,7 @@ no_place_and_fault frame addrs old new place rule at a b =
       ]
     ]
 
-pub one_reading : (frame : Frame) (addrs : Addrs) (old : Place) → HasOneReading frame addrs old
+pub one_reading : (frame : Frame) (addrs : Addresses) (old : Place) → HasOneReading frame addrs old
 one_reading frame addrs old = record {
   one_place = one_place frame addrs old;
   one_fault = one_first frame addrs old;

@@ -4,7 +4,7 @@ use Rattle.rv_bytes.specs.Places.{Place}
 use Rattle.rv_bytes.specs.Forms.{Splits}
 use Rattle.rv_bytes.specs.Reads.{Takes}
 use Rattle.rv_bytes.specs.declared.err.DwErr.{DwErr}
-use Rattle.expr_eval.specs.declared.addresses.Addrs.{Addrs}
+use Rattle.expr_eval.specs.Addresses.{Addresses}
 use Rattle.expr_bytes.specs.Rules.{bad_order}
 use Rattle.expr_bytes.specs.Operations.{Oper}
 use Rattle.expr_bytes.specs.Operands.{operation}
@@ -30,7 +30,7 @@ last_by (Some o) last at = at
 
 -- An operation stands from the old place up to the new one, breaks no rule after those before it, and is added to them; `now_last` is
 -- where the last of them stands.
-pub record GoesOn (frame : Frame) (addrs : Addrs) (old new : Place) (before after : List Oper) (last now_last : ℕ) : Type 0 where
+pub record GoesOn (frame : Frame) (addrs : Addresses) (old new : Place) (before after : List Oper) (last now_last : ℕ) : Type 0 where
   pub oper : Option Oper
   pub takes : Takes (operation frame addrs) old new oper
   pub is_added : after ≡ before ++ added oper
@@ -38,7 +38,7 @@ pub record GoesOn (frame : Frame) (addrs : Addrs) (old new : Place) (before afte
   pub in_order : IsInOrder before oper
 
 -- after these the operation at the old place breaks this rule; out of memory says nothing of it
-abbrev pub IsRefusedAfter : Frame → Addrs → List Oper → Place → DwErr → Type 0
+abbrev pub IsRefusedAfter : Frame → Addresses → List Oper → Place → DwErr → Type 0
 IsRefusedAfter frame addrs before old (DwErr.Refused offset rule) = (offset ≡ old.at) × IsInvalid frame addrs before old.at old.rest rule
 IsRefusedAfter frame addrs before old DwErr.Memory = Unit {0}
 
@@ -52,16 +52,16 @@ IsRefusedLast opers last (DwErr.Refused offset rule) = (offset ≡ last) × ((ru
 IsRefusedLast opers last DwErr.Memory = Unit {0}
 
 -- the refusal is right; out of memory says nothing of the bytes
-abbrev pub IsRefusedOf : Frame → Addrs → Place → DwErr → Type 0
+abbrev pub IsRefusedOf : Frame → Addresses → Place → DwErr → Type 0
 IsRefusedOf frame addrs old (DwErr.Refused offset rule) = IsFaultAt frame addrs old rule offset
 IsRefusedOf frame addrs old DwErr.Memory = Unit {0}
 
 -- from place n on only operations that do nothing stand, up to this place
-abbrev pub OnlyNopTo : Frame → Addrs → Place → ℕ → List ℕ → Type 0
+abbrev pub OnlyNopTo : Frame → Addresses → Place → ℕ → List ℕ → Type 0
 OnlyNopTo frame addrs now n s = (count : ℕ) × Splits (StandAt frame addrs n (replicate count None)) (λ _ rest. rest ≡ now.rest) n s
 
 -- the last of the operations that do something, up to this place, stands here
-pub record LastStands (frame : Frame) (addrs : Addrs) (old now : Place) (opers : List Oper) (last : ℕ) : Type 0 where
+pub record LastStands (frame : Frame) (addrs : Addresses) (old now : Place) (opers : List Oper) (last : ℕ) : Type 0 where
   pub before : List (Option Oper)
   pub o : Oper
   pub front : List ℕ
@@ -74,7 +74,7 @@ pub record LastStands (frame : Frame) (addrs : Addrs) (old now : Place) (opers :
 
 -- From the old place up to this one operations stand that break no rule where others follow. Those that do something are listed, and
 -- the last of these stands here.
-pub record HasRead (frame : Frame) (addrs : Addrs) (old now : Place) (opers : List Oper) (last : ℕ) : Type 0 where
+pub record HasRead (frame : Frame) (addrs : Addresses) (old now : Place) (opers : List Oper) (last : ℕ) : Type 0 where
   pub all : List (Option Oper)
   pub spelling : List ℕ
   pub stand : StandAt frame addrs old.at all spelling

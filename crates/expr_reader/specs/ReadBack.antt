@@ -1,7 +1,7 @@
 -- What is written of operations is read back.
 use Rattle.std.specs.Prelude.{◌≡◌, ℕ, ◌+◌, List, ◌++◌, length, Result, Ok, Err, IfOk, IfErr, ◌⊎◌}
 use Rattle.rv_bytes.specs.Places.{Place}
-use Rattle.expr_eval.specs.declared.addresses.Addrs.{Addrs}
+use Rattle.expr_eval.specs.Addresses.{Addresses}
 use Rattle.expr_eval.specs.declared.operation.Op.{Op}
 use Rattle.expr_bytes.specs.Runs.{Ends, TakesPlace, IsRefusedPlace}
 use Rattle.expr_bytes.specs.Written.{IsReadAs, AppendsPlace}
@@ -10,7 +10,7 @@ use Rattle.expr_bytes.specs.declared.place.Simple.{Simple}
 use Rattle.expr_bytes.specs.declared.place.OpsErr.{OpsErr}
 
 -- what `read_ops` promises of a reading from the old place up to the new one
-pub record IsReading (frame : Frame) (addrs : Addrs) (old new : Place) (result : Result Simple OpsErr) : Type 0 where
+pub record IsReading (frame : Frame) (addrs : Addresses) (old new : Place) (result : Result Simple OpsErr) : Type 0 where
   pub taken : IfOk result (TakesPlace frame addrs old new)
   pub refused : IfErr result (IsRefusedPlace frame addrs old)
 
@@ -21,7 +21,7 @@ IsReadOr place end result new = ((result ≡ Ok place) × (new ≡ end)) ⊎ (re
 -- Where `put_ops` appended what it promises, a reading of these bytes, wherever they stand before an end, gives the place as which
 -- the operations are read, and ends where they do.
 abbrev pub AreReadBack : Type 0
-AreReadBack = (ops : List Op) (old new : List ℕ) (put : AppendsPlace ops old new) (frame : Frame) (addrs : Addrs) (n : ℕ) (rest : List ℕ)
+AreReadBack = (ops : List Op) (old new : List ℕ) (put : AppendsPlace ops old new) (frame : Frame) (addrs : Addresses) (n : ℕ) (rest : List ℕ)
     (place : Simple) (result : Result Simple OpsErr) (end : Place) → Ends rest → IsReadAs ops place
     → IsReading frame addrs (record { at = n; rest = put.bytes ++ rest }) end result
     → IsReadOr place (record { at = n + length put.bytes; rest = rest }) result end
