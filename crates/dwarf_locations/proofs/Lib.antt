@@ -1,0 +1,9 @@
+pub mod Sizes
+pub mod Firsts
+pub mod Rests
+pub mod Totals
+pub mod Listed
+pub mod Definite
+pub mod OneWay
+pub mod Known
+pub mod SomeReading

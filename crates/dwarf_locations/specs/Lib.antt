@@ -1,0 +1,7 @@
+pub mod Rules
+pub mod Places
+pub mod Pieces
+pub mod Expressions
+pub mod Lists
+pub mod Laws
+pub mod Steps
