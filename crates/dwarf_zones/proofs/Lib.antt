@@ -1,0 +1,2 @@
+pub mod WaysUp
+pub mod Listed

@@ -1,0 +1,5 @@
+pub mod Units
+pub mod Lists
+pub mod Frames
+pub mod Scopes
+pub mod Zones
