@@ -1,0 +1,3 @@
+pub mod Backs
+pub mod Digits
+pub mod Nexts

@@ -1,0 +1,3 @@
+pub mod ProperNames
+pub mod Lowers
+pub mod Twos
