@@ -6,7 +6,8 @@
 #
 # `check.txt` and `answer.txt` are what `check` and `text` print, with status 0 and no message; of a `bundle`, `show.txt` and `print.txt` are what `show` and
 # `print` print. Where there is a `message.txt`, both commands
-# print nothing, and end with that message and the status in `status.txt`.
+# print nothing, and end with that message and the status in `status.txt`. Of a layout without functions `emit dwarf` writes a bundle of which `show` is the layout
+# and `print` the answer.
 set -uo pipefail
 program=$(realpath "$1")
 cd "$(dirname "$0")"
@@ -44,6 +45,11 @@ for example in */; do
     else
         run check.txt "$room/empty" "$room/zero" check layout.txt
         run answer.txt "$room/empty" "$room/zero" text layout.txt snapshot.txt
+        if ! grep -q '^fn ' layout.txt; then
+            "$program" emit dwarf layout.txt > "$room/bundle"
+            run layout.txt "$room/empty" "$room/zero" show "$room/bundle"
+            run answer.txt "$room/empty" "$room/zero" print "$room/bundle" snapshot.txt
+        fi
     fi
     cd ..
 done

@@ -4,6 +4,7 @@ use Rattle.std.proofs.lemmas.Bool.{cases_lt}
 use Rattle.std.proofs.lemmas.Bool.Decides.{nat_tests}
 use Rattle.rv_io.specs.Faults.{Rose}
 use Rattle.rv_io.specs.Files.{Files, file}
+use Rattle.layout_set.specs.declared.func.Func.{Func}
 use Rattle.layout_set.specs.declared.set.Set.{Set}
 use Rattle.layout_set.specs.declared.breach.CheckErr.{CheckErr}
 use Rattle.layout_set.specs.declared.breach.CheckErr.TheVariants as checks
@@ -18,9 +19,9 @@ use Rattle.snapshot_file.specs.Claims as snapshots
 use Rattle.layout_set.specs.declared.refusal.ReadErr.{ReadErr}
 use Rattle.layout_set.specs.declared.refusal.ReadErr.TheVariants as refusals
 use Rattle.bundle_reader.specs.Readings as bundles
-use Rattle.dbg_command.specs.Forms.{Form, LayoutCommand, BundleCommand, layout, bundle, check, text, show, print, form_of}
-use Rattle.dbg_command.specs.Answers.{Ending, WithinLimit, WithFile, OfSnapshot, WithSnapshot, OfCheck, OfText, OfLawful, OfLaws, OfSet, OfRead, OfLayout, OfDescribed, OfSections, OfBundle, OfForm, Answers}
-use Rattle.dbg_command.specs.OneEnding.{IsGiven, SpellsLawful, SpellsSnapshot, IsLayoutAccepted, IsBundleAccepted, IsAccepted, AcceptedAreAnswered}
+use Rattle.dbg_command.specs.Forms.{Form, LayoutCommand, BundleCommand, layout, bundle, check, text, emit, show, print, form_of}
+use Rattle.dbg_command.specs.Answers.{Ending, WithinLimit, WithFile, OfSnapshot, WithSnapshot, OfCheck, OfEmit, OfText, OfLawful, OfLaws, OfSet, OfRead, OfLayout, OfDescribed, OfSections, OfBundle, OfForm, Answers}
+use Rattle.dbg_command.specs.OneEnding.{IsGiven, IsAnswered, SpellsSnapshot, IsLayoutAccepted, IsBundleAccepted, IsAccepted, AcceptedAreAnswered}
 use Rattle.dbg_command.specs.Runs.{Ends}
 use Rattle.dbg_command.proofs.OneReading.{one_layout, one_snapshot, one_bundle, one_check}
 use Rattle.dbg_command.proofs.OneEnding.{Below}
@@ -57,9 +58,13 @@ module _ (B : Below) where
   of_text set depth width snapshot files given =
       with_file snapshot 67108864 (WithSnapshot set depth width) (file files snapshot) given.0 given.1 given.2 (with_snapshot set depth width given.0 given.3)
 
-  of_lawful : (command : LayoutCommand) (files : Files) (set : Set) → IsLayoutAccepted files command → IsDone (OfLawful command files set)
-  of_lawful check files set given = of_check set
-  of_lawful (text p) files set given = of_text set p.depth p.width p.snapshot files given
+  of_emit : (set : Set) (funcs : List Func) → funcs ≡ [] → IsDone (OfEmit set funcs)
+  of_emit set funcs none s o m h = (subst (λ l. OfEmit set l s o m) none h).0
+
+  of_lawful : (command : LayoutCommand) (files : Files) (set : Set) → IsAnswered command set → IsLayoutAccepted files command → IsDone (OfLawful command files set)
+  of_lawful check files set answered given = of_check set
+  of_lawful (text p) files set answered given = of_text set p.depth p.width p.snapshot files given
+  of_lawful emit files set answered given = of_emit set set.funcs answered
 
   of_laws : (command : LayoutCommand) (files : Files) (set : Set) → IsLawful set → IsDone (OfLawful command files set) → IsDone (OfSet command files set)
   of_laws command files set lawful done s o m h =
@@ -85,7 +90,7 @@ module _ (B : Below) where
       let first = given.0 in
       let lawful = first.3 in
       with_file name 16777216 (OfLayout command files) (file files name) first.0 first.1 first.2
-      (of_layout command files first.0 lawful.0 lawful.1 (of_laws command files lawful.0 lawful.2 (of_lawful command files lawful.0 given.1)))
+      (of_layout command files first.0 lawful.0 lawful.1 (of_laws command files lawful.0 lawful.2 (of_lawful command files lawful.0 lawful.3 given.1)))
   of_form (bundle name command) files given =
       let first = given.0 in
       let described = first.3 in

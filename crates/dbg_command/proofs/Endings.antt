@@ -16,6 +16,7 @@ module _ (named : Type 0) (told : Option Files) (Holds : Files → ℕ → List 
   ends_stop (stops.SnapshotOverlap l) h n = record { silent = λ e. absurd (omega arith); stopped = λ _. ((stops.SnapshotOverlap l), refl, refl); answered = λ _. h; refused = λ _ _. refl; usage = λ e. absurd (omega arith); nameless = λ m. absurd (m n); read = λ e. absurd (omega arith); write = λ e. absurd (omega arith); memory = λ e. absurd (omega arith); status = lit≤ tt }
   ends_stop (stops.CannotOpen name) h n = record { silent = λ e. absurd (omega arith); stopped = λ _. ((stops.CannotOpen name), refl, refl); answered = λ _. h; refused = λ _ _. refl; usage = λ e. absurd (omega arith); nameless = λ m. absurd (m n); read = λ e. absurd (omega arith); write = λ e. absurd (omega arith); memory = λ e. absurd (omega arith); status = lit≤ tt }
   ends_stop (stops.TooManyBytes name) h n = record { silent = λ e. absurd (omega arith); stopped = λ _. ((stops.TooManyBytes name), refl, refl); answered = λ _. h; refused = λ _ _. refl; usage = λ e. absurd (omega arith); nameless = λ m. absurd (m n); read = λ e. absurd (omega arith); write = λ e. absurd (omega arith); memory = λ e. absurd (omega arith); status = lit≤ tt }
+  ends_stop stops.NotYet h n = record { silent = λ e. absurd (omega arith); stopped = λ _. (stops.NotYet, refl, refl); answered = λ _. h; refused = λ _ _. refl; usage = λ e. absurd (omega arith); nameless = λ m. absurd (m n); read = λ e. absurd (omega arith); write = λ e. absurd (omega arith); memory = λ e. absurd (omega arith); status = lit≤ tt }
   ends_stop stops.ReadFault h n = record { silent = λ e. absurd (omega arith); stopped = λ e. absurd (omega arith); answered = λ l. absurd (omega arith); refused = λ _ u. absurd (omega arith); usage = λ e. absurd (omega arith); nameless = λ m. absurd (m n); read = λ e. (n, h, refl, refl); write = λ e. absurd (omega arith); memory = λ e. absurd (omega arith); status = lit≤ tt }
   ends_stop stops.WriteFault h n = absurd h
   ends_stop stops.Memory h n = record { silent = λ e. absurd (omega arith); stopped = λ e. absurd (omega arith); answered = λ l. absurd (omega arith); refused = λ _ u. absurd (omega arith); usage = λ e. absurd (omega arith); nameless = λ m. absurd (m n); read = λ e. absurd (omega arith); write = λ e. absurd (omega arith); memory = λ e. (refl, refl); status = lit≤ tt }

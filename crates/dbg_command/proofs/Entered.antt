@@ -42,6 +42,7 @@ fetched_gives told name found limit before mid now Next Is r has later leads h =
     by_stop (stops.SnapshotOverlap l) h = enter told 1 [] (message (stops.SnapshotOverlap l)) has h
     by_stop (stops.CannotOpen n) h = enter told 1 [] (message (stops.CannotOpen n)) has h
     by_stop (stops.TooManyBytes n) h = enter told 1 [] (message (stops.TooManyBytes n)) has h
+    by_stop stops.NotYet h = enter told 1 [] (message stops.NotYet) has h
 
     by_result : (r : Result (List ℕ) Stop) → Gives told Is mid now r → Gives told (λ files. WithFile name limit (Next files) (file files name)) before now r
     by_result (Ok output) h = enter told 0 output [] has h

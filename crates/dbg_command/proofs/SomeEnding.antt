@@ -1,4 +1,4 @@
--- No words and files are without an ending. What is not decided here is never both denied.
+-- No words and files are without an ending, those of `emit` aside. What is not decided here is never both denied.
 use Rattle.std.proofs.Common.{◌≡◌, ℕ, zero, suc, ◌+◌, ◌<◌, ◌≤◌, ◌⊎◌, inl, inr, List, [], ◌∷◌, ◌++◌, max, length, Bool, true, false, nat_lt, Decides, Option, Some, None, Result, Ok, Err, refl, sym, ap, subst, ◌∙◌, codes, filter, arith}
 use Rattle.std.proofs.lemmas.Bool.{cases_lt}
 use Rattle.rv_io.specs.Files.{Files, file}
@@ -33,11 +33,11 @@ use Rattle.layout_file.specs.Claims as layouts
 use Rattle.layout_set.specs.declared.refusal.ReadErr.{ReadErr}
 use Rattle.layout_set.specs.declared.refusal.ReadErr.TheVariants as refusals
 use Rattle.bundle_reader.specs.Readings as bundles
-use Rattle.dbg_command.specs.Forms.{Form, LayoutCommand, BundleCommand, layout, bundle, check, text, show, print, form_of}
+use Rattle.dbg_command.specs.Forms.{Form, LayoutCommand, BundleCommand, layout, bundle, check, text, emit, show, print, form_of}
 use Rattle.layout_values.specs.Shown.{IsShownAt, IsShownIn}
 use Rattle.dbg_command.specs.Lines.{IsStaticLine, IsVarLine, AreVarLines, IsFuncText, AreEach, Prints, static_line, var_line, func_line, pc_line, is_entered, is_called}
 use Rattle.dbg_command.specs.Answers.{Ending, Refuses, Puts, WithinLimit, WithFile, OfSnapshot, WithSnapshot, OfText, honesty_text, OfCheck, OfLawful, OfLaws, OfSet, OfRead, OfLayout, OfDescribed, OfSections, OfBundle, OfForm}
-use Rattle.dbg_command.specs.OneEnding.{SomeEnding}
+use Rattle.dbg_command.specs.OneEnding.{SomeEnding, AsksBundle}
 
 -- a part has an outcome
 outcome : (c : Context) (depth : ℕ) (ty : TypeRef) (p : Items) → Never ((o : Outcome) × IsOutcome c depth ty p o)
@@ -104,6 +104,17 @@ of_snapshot set depth width (Err (snap_errs.BadLine l rule)) known deny = deny 1
 of_snapshot set depth width (Err (snap_errs.Overlap l)) known deny = deny 1 [] _ (refl, refl, refl)
 of_snapshot set depth width (Err snap_errs.Memory) known deny = known refl
 
+-- a command that is not `emit`
+abbrev IsOther : LayoutCommand → Type 0
+IsOther check = Unit {0}
+IsOther (text p) = Unit {0}
+IsOther emit = ⊥
+
+is_other : (name : List ℕ) (command : LayoutCommand) → ¬ (AsksBundle (Some (layout name command))) → IsOther command
+is_other name check other = tt
+is_other name (text p) other = tt
+is_other name emit other = other tt
+
 module _ (layout_read : layouts.HaveReading) (snapshot_read : snapshots.HaveReading) (bundle_read : bundles.HaveReading) where
   with_snapshot : (set : Set) (depth width : ℕ) (bytes : List ℕ) → Ends (WithSnapshot set depth width bytes)
   with_snapshot set depth width bytes deny =
@@ -119,28 +130,29 @@ module _ (layout_read : layouts.HaveReading) (snapshot_read : snapshots.HaveRead
       no_false : false ≡ true → ⊥
       no_false e = grind (arith, e)
 
-  of_lawful : (command : LayoutCommand) (files : Files) (set : Set) → Ends (OfLawful command files set)
-  of_lawful check files set = of_check set
-  of_lawful (text p) files set = with_file p.snapshot 67108864 (WithSnapshot set p.depth p.width) (file files p.snapshot) (with_snapshot set p.depth p.width)
+  of_lawful : (command : LayoutCommand) (files : Files) (set : Set) → IsOther command → Ends (OfLawful command files set)
+  of_lawful check files set other = of_check set
+  of_lawful (text p) files set other = with_file p.snapshot 67108864 (WithSnapshot set p.depth p.width) (file files p.snapshot) (with_snapshot set p.depth p.width)
+  of_lawful emit files set other = absurd other
 
-  of_laws : (command : LayoutCommand) (files : Files) (set : Set) (r : Result (Unit {0}) CheckErr) → (r ≡ Err checks.Memory → ⊥) → Ends (OfLaws command files set r)
-  of_laws command files set (Ok u) known deny = of_lawful command files set deny
-  of_laws command files set (Err (checks.Breach law at)) known deny = deny 1 [] _ (refl, refl, refl)
-  of_laws command files set (Err checks.Memory) known deny = known refl
+  of_laws : (command : LayoutCommand) (files : Files) (set : Set) → IsOther command → (r : Result (Unit {0}) CheckErr) → (r ≡ Err checks.Memory → ⊥) → Ends (OfLaws command files set r)
+  of_laws command files set other (Ok u) known deny = of_lawful command files set other deny
+  of_laws command files set other (Err (checks.Breach law at)) known deny = deny 1 [] _ (refl, refl, refl)
+  of_laws command files set other (Err checks.Memory) known deny = known refl
 
-  of_set : (command : LayoutCommand) (files : Files) (set : Set) → Ends (OfSet command files set)
-  of_set command files set deny = checked set (laws set) (λ r. of_laws command files set r.0 r.2 (λ s o m e. deny s o m (r.0, r.1, e)))
+  of_set : (command : LayoutCommand) (files : Files) (set : Set) → IsOther command → Ends (OfSet command files set)
+  of_set command files set other deny = checked set (laws set) (λ r. of_laws command files set other r.0 r.2 (λ s o m e. deny s o m (r.0, r.1, e)))
 
-  of_read : (command : LayoutCommand) (files : Files) (r : Result Set LayoutErr) → (r ≡ Err layout_errs.Memory → ⊥) → Ends (OfRead command files r)
-  of_read command files (Ok set) known deny = of_set command files set deny
-  of_read command files (Err (layout_errs.BadLine l rule)) known deny = deny 1 [] _ (refl, refl, refl)
-  of_read command files (Err (layout_errs.Limit which)) known deny = deny 1 [] _ (refl, refl, refl)
-  of_read command files (Err layout_errs.Memory) known deny = known refl
+  of_read : (command : LayoutCommand) (files : Files) → IsOther command → (r : Result Set LayoutErr) → (r ≡ Err layout_errs.Memory → ⊥) → Ends (OfRead command files r)
+  of_read command files other (Ok set) known deny = of_set command files set other deny
+  of_read command files other (Err (layout_errs.BadLine l rule)) known deny = deny 1 [] _ (refl, refl, refl)
+  of_read command files other (Err (layout_errs.Limit which)) known deny = deny 1 [] _ (refl, refl, refl)
+  of_read command files other (Err layout_errs.Memory) known deny = known refl
 
-  of_layout : (command : LayoutCommand) (files : Files) (bytes : List ℕ) → Ends (OfLayout command files bytes)
-  of_layout command files bytes deny =
+  of_layout : (command : LayoutCommand) (files : Files) → IsOther command → (bytes : List ℕ) → Ends (OfLayout command files bytes)
+  of_layout command files other bytes deny =
       let r = layout_read bytes in
-      of_read command files r.0 r.1.0 (λ s o m e. deny s o m (r.0, r.1.1, e))
+      of_read command files other r.0 r.1.0 (λ s o m e. deny s o m (r.0, r.1.1, e))
 
   of_described : (command : BundleCommand) (files : Files) (set : Set) → Ends (OfDescribed command files set)
   of_described show files set deny = deny 0 _ [] (refl, refl, refl)
@@ -154,10 +166,10 @@ module _ (layout_read : layouts.HaveReading) (snapshot_read : snapshots.HaveRead
   of_bundle : (command : BundleCommand) (files : Files) (bytes : List ℕ) → Ends (OfBundle command files bytes)
   of_bundle command files bytes deny = bundle_read bytes (λ r known is. of_sections command files r known (λ s o m e. deny s o m (r, is, e)))
 
-  of_form : (form : Option Form) (files : Files) → Ends (OfForm form files)
-  of_form None files deny = deny 2 [] _ (refl, refl, refl)
-  of_form (Some (layout name command)) files deny = with_file name 16777216 (OfLayout command files) (file files name) (of_layout command files) deny
-  of_form (Some (bundle name command)) files deny = with_file name 536870912 (OfBundle command files) (file files name) (of_bundle command files) deny
+  of_form : (form : Option Form) (files : Files) → ¬ (AsksBundle form) → Ends (OfForm form files)
+  of_form None files other deny = deny 2 [] _ (refl, refl, refl)
+  of_form (Some (layout name command)) files other deny = with_file name 16777216 (OfLayout command files) (file files name) (of_layout command files (is_other name command other)) deny
+  of_form (Some (bundle name command)) files other deny = with_file name 536870912 (OfBundle command files) (file files name) (of_bundle command files) deny
 
   pub some_ending : SomeEnding
-  some_ending words files deny = of_form (form_of words) files deny
+  some_ending words files other deny = of_form (form_of words) files other deny

@@ -1,7 +1,8 @@
 -- What the words and the files lead to: a status, an output and a message.
-use Rattle.std.specs.Prelude.{◌≡◌, ℕ, nat_lt, List, [], length, Option, Some, None, Result, Ok, Err, codes, Bool, true, false}
+use Rattle.std.specs.Prelude.{◌≡◌, ℕ, nat_lt, List, [], ◌∷◌, length, Option, Some, None, Result, Ok, Err, codes, Bool, true, false}
 use Rattle.std.specs.Bool.{Decides}
 use Rattle.rv_io.specs.Files.{Files, file}
+use Rattle.layout_set.specs.declared.func.Func.{Func}
 use Rattle.layout_set.specs.declared.set.Set.{Set}
 use Rattle.layout_set.specs.declared.breach.CheckErr.{CheckErr}
 use Rattle.layout_set.specs.declared.breach.CheckErr.TheVariants as checks
@@ -18,8 +19,12 @@ use Rattle.snapshot_file.specs.Claims as snapshots
 use Rattle.layout_lines.specs.Sets.{layout_text}
 use Rattle.layout_set.specs.declared.refusal.ReadErr.{ReadErr}
 use Rattle.layout_set.specs.declared.refusal.ReadErr.TheVariants as refusals
+use Rattle.bundle_file.specs.Files.{IsBundleFile}
+use Rattle.bundle_file.specs.declared.sections.Bundle.{Bundle}
+use Rattle.bundle_file.specs.declared.sections.DwarfSections.{DwarfSections}
+use Rattle.dwarf_info.specs.Reads.{DescribeSet}
 use Rattle.bundle_reader.specs.Readings as bundles
-use Rattle.dbg_command.specs.Forms.{Form, LayoutCommand, BundleCommand, layout, bundle, check, text, show, print, form_of}
+use Rattle.dbg_command.specs.Forms.{Form, LayoutCommand, BundleCommand, layout, bundle, check, text, emit, show, print, form_of}
 use Rattle.dbg_command.specs.Stops.{line, number_line, numbers_line, count_word, breach_line, outside_line}
 use Rattle.dbg_command.specs.Lines.{Prints}
 
@@ -72,10 +77,20 @@ honesty_text false = codes "lawful\nhonest no\n"
 abbrev pub OfCheck : Set → Ending
 OfCheck set status output message = (honest : Bool) × Decides honest (IsHonest set) × Puts (honesty_text honest) status output message
 
+-- a bundle file of DWARF sections, which describe the set
+abbrev pub IsEmitted : Set → List ℕ → Type 0
+IsEmitted set file = (s : DwarfSections) × IsBundleFile file (Bundle.Dwarf s) × DescribeSet s set
+
+-- any such file is an answer; of functions none are written yet
+abbrev pub OfEmit : Set → List Func → Ending
+OfEmit set [] status output message = (status ≡ 0) × IsEmitted set output × (message ≡ [])
+OfEmit set (f ∷ funcs) status output message = Refuses 1 (line (codes "rdbg: not yet") []) status output message
+
 -- what is answered of a lawful set
 abbrev pub OfLawful : LayoutCommand → Files → Set → Ending
 OfLawful check files set = OfCheck set
 OfLawful (text p) files set = OfText set p.depth p.width p.snapshot files
+OfLawful emit files set = OfEmit set set.funcs
 
 -- the set is lawful, or its first breach is told
 abbrev pub OfLaws : LayoutCommand → Files → Set → Result (Unit {0}) CheckErr → Ending

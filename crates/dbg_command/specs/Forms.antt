@@ -17,10 +17,11 @@ pub record Printing : Type 0 where
   pub depth : ℕ
   pub width : ℕ
 
--- what is asked of a layout: whether it is lawful and honest, or its values
+-- what is asked of a layout: whether it is lawful and honest, its values, or a bundle of DWARF sections that describe it
 pub data LayoutCommand : Type 0 where
   check : LayoutCommand
   text : (printing : Printing) → LayoutCommand
+  emit : LayoutCommand
 
 -- what is asked of a bundle: the set that it describes, or its values
 pub data BundleCommand : Type 0 where
@@ -67,10 +68,18 @@ long_form command name snapshot depth_word depth width_word width =
     then printing_form_at command name snapshot (number_from 0 4 depth) (number_from 1 256 width)
     else None
 
--- the words' form; a word that isn't UTF-8 fits none; depth 2 and width 32 are taken where none are asked for
+-- `emit dwarf L`, where the name is UTF-8
+abbrev pub emit_form : List ℕ → List ℕ → Option Form
+emit_form format name = if bytes_eq format (codes "dwarf") && is_utf8 name then Some (layout name emit) else None
+
+-- three words: `emit` has a format before the name; depth 2 and width 32 are taken where none are asked for
+abbrev pub short_form : List ℕ → List ℕ → List ℕ → Option Form
+short_form command first second = if bytes_eq command (codes "emit") then emit_form first second else printing_form command first second 2 32
+
+-- the words' form; a word that isn't UTF-8 fits none
 abbrev pub form_of : List (List ℕ) → Option Form
 form_of (command ∷ name ∷ []) = file_form command name
-form_of (command ∷ name ∷ snapshot ∷ []) = printing_form command name snapshot 2 32
+form_of (command ∷ first ∷ second ∷ []) = short_form command first second
 form_of (command ∷ name ∷ snapshot ∷ depth_word ∷ depth ∷ width_word ∷ width ∷ []) = long_form command name snapshot depth_word depth width_word width
 form_of _ = None
 
@@ -78,6 +87,7 @@ form_of _ = None
 abbrev pub IsShallowLayout : LayoutCommand → Type 0
 IsShallowLayout check = Unit {0}
 IsShallowLayout (text p) = p.depth ≤ 4
+IsShallowLayout emit = Unit {0}
 
 abbrev pub IsShallowBundle : BundleCommand → Type 0
 IsShallowBundle show = Unit {0}
@@ -94,6 +104,7 @@ printing_of p = record { snapshot = p.snapshot.now; depth = p.depth; width = p.w
 abbrev pub layout_command : OfLayout → LayoutCommand
 layout_command layouts.Check = check
 layout_command (layouts.Text p) = text (printing_of p)
+layout_command layouts.Emit = emit
 
 abbrev pub bundle_command : OfBundle → BundleCommand
 bundle_command bundles.Show = show

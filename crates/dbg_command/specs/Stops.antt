@@ -69,6 +69,7 @@ message (stops.SnapshotLine n rule) = numbers_line (codes "rdbg: snapshot line "
 message (stops.SnapshotOverlap n) = number_line (codes "rdbg: snapshot overlap ") n []
 message (stops.CannotOpen name) = line (codes "rdbg: cannot open ") name.now
 message (stops.TooManyBytes name) = line (codes "rdbg: too many bytes ") name.now
+message stops.NotYet = line (codes "rdbg: not yet") []
 message stops.ReadFault = line (codes "rdbg: read fault") []
 message stops.WriteFault = line (codes "rdbg: write fault") []
 message stops.Memory = line (codes "rdbg: out of memory") []

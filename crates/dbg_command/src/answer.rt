@@ -1,14 +1,15 @@
 //! The answer to the words of a command line.
-ghost use Rattle.std.specs.Prelude.{◌≡◌, ◌≤◌, ◌<◌, [], Some, IsSome, IfOk, ⊤};
+ghost use Rattle.std.specs.Prelude.{◌≡◌, ◌≤◌, ◌<◌, [], ℕ, Option, Some, IsSome, IfOk, ⊤};
 ghost use Rattle.layout_set.specs.Laws.{IsLawful, IsSound};
 ghost use Rattle.layout_lines.specs.Sets.{layout_text};
 ghost use Rattle.layout_set.specs.HasSizes.{HasSizes};
 ghost use Rattle.layout_set.specs.IsSet.{IsSet};
 ghost use Rattle.dbg_command.specs.Forms.{form_of, named, layout_command, bundle_command, IsShallow, IsShallowLayout, IsShallowBundle};
-ghost use Rattle.dbg_command.specs.Answers.{Answers, OfForm, OfLayout, OfSet, OfLawful, OfCheck, OfText, OfBundle, OfDescribed, WithFile, honesty_text};
+ghost use Rattle.dbg_command.specs.Answers.{Answers, OfForm, OfLayout, OfSet, OfLawful, OfCheck, OfEmit, OfText, OfBundle, OfDescribed, WithFile, honesty_text};
 ghost use Rattle.dbg_command.specs.Runs.{Gives, Fetched, Fits};
-ghost use Rattle.rv_io.specs.Files.{file};
+ghost use Rattle.rv_io.specs.Files.{Files, file};
 
+use crate::emitted::bundle_of;
 use crate::form::{BundleCommand, Form, LayoutCommand, Printing, form_of};
 use crate::printed::lines;
 use crate::stop::Stop;
@@ -106,6 +107,7 @@ fn of_lawful<'a, I: Inputs>(
     inputs: &mut I,
 ) -> Result<Buf, Stop<'a>>
     requires lawful { IsLawful set.now }
+    requires set { IsSet set.now }
     requires shallow { IsShallowLayout (layout_command command) }
     ensures result { Gives (I.files inputs.old) (λ files. OfLawful (layout_command command.entry) files set.now) (I.faults inputs.old) (I.faults inputs.new) result }
     ensures form { Fits ⊤ result }
@@ -114,6 +116,7 @@ fn of_lawful<'a, I: Inputs>(
     match command {
         LayoutCommand::Check => Ok(of_check(alloc, set)?),
         LayoutCommand::Text(printing) => of_text(alloc, set, printing, inputs),
+        LayoutCommand::Emit => of_emit(alloc, set),
     }
 }
 
@@ -163,6 +166,19 @@ fn of_show(alloc: Global, set: &Set) -> Result<Buf, Memory>
     let mut text = Buf::new(alloc);
     layout_file::write(set, &mut text)?;
     Ok(text)
+}
+
+/// What `emit` answers of a lawful set.
+fn of_emit<'a>(alloc: Global, set: &Set) -> Result<Buf, Stop<'a>>
+    requires lawful { IsLawful set.now }
+    requires set { IsSet set.now }
+    ensures result { (told : Option Files) (before now : ℕ) → Gives told (λ _. OfEmit set.now set.now.funcs) before now result }
+    ensures form { Fits ⊤ result }
+{
+    match set.funcs.as_slice() {
+        [] => Ok(bundle_of(alloc, set)?),
+        _ => Err(Stop::NotYet),
+    }
 }
 
 /// What `check` answers of a lawful set.

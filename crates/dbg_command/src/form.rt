@@ -2,7 +2,7 @@
 ghost use Rattle.std.specs.Prelude.{◌≡◌, ◌≤◌, Some, None, IfSome, if◌then◌else◌};
 ghost use Rattle.std.specs.Option.{option_map, option_copied};
 ghost use Rattle.std.specs.Str.{is_utf8};
-ghost use Rattle.dbg_command.specs.Forms.{form_of, file_form, printing_form, long_form, number_from, named, IsShallow};
+ghost use Rattle.dbg_command.specs.Forms.{form_of, file_form, printing_form, emit_form, short_form, long_form, number_from, named, IsShallow};
 
 use readers::read_decimal;
 use rv_io::Text;
@@ -31,6 +31,8 @@ pub enum LayoutCommand<'a> {
     Check,
     /// `text L S`: the statics of the layout and its running functions over the snapshot.
     Text(Printing<'a>),
+    /// `emit dwarf L`: a bundle of DWARF sections that describe the layout.
+    Emit,
 }
 
 /// What is asked of a bundle.
@@ -56,13 +58,9 @@ pub fn form_of(words: &[Text]) -> Option<Form<'_>>
 {
     match words {
         [command, name] => file_form(command.as_bytes(), name.as_bytes()),
-        [command, name, snapshot] => printing_form(
-            command.as_bytes(),
-            name.as_bytes(),
-            snapshot.as_bytes(),
-            DEPTH,
-            WIDTH,
-        ),
+        [command, first, second] => {
+            short_form(command.as_bytes(), first.as_bytes(), second.as_bytes())
+        }
         [
             command,
             name,
@@ -97,6 +95,30 @@ fn file_form<'a>(command: &[u8], name: &'a [u8]) -> Option<Form<'a>>
         return Some(Form::Bundle(name, BundleCommand::Show));
     }
     None
+}
+
+/// `emit dwarf L`, or `text L S` and `print B S`, for which no depth and no width is asked.
+fn short_form<'a>(command: &[u8], first: &'a [u8], second: &'a [u8]) -> Option<Form<'a>>
+    ensures form { option_map (λ f. named f) result ≡ short_form command.now first.now second.now }
+    ensures shallow { IfSome result (λ f. IsShallow (named f)) }
+{
+    if command == b"emit".as_slice() {
+        emit_form(first, second)
+    } else {
+        printing_form(command, first, second, DEPTH, WIDTH)
+    }
+}
+
+/// `emit dwarf L`, of the words behind the first.
+fn emit_form<'a>(format: &[u8], name: &'a [u8]) -> Option<Form<'a>>
+    ensures form { option_map (λ f. named f) result ≡ emit_form format.now name.now }
+    ensures shallow { IfSome result (λ f. IsShallow (named f)) }
+{
+    if format != b"dwarf".as_slice() {
+        return None;
+    }
+    let name = utf8(name)?;
+    Some(Form::Layout(name, LayoutCommand::Emit))
 }
 
 /// `text L S`, `print B S`, at a depth and a width.

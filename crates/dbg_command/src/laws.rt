@@ -59,7 +59,7 @@ fn snapshots_have_a_reading()
     snapshot_file::a_file_is_spelled_or_at_fault();
 }
 
-/// Words and told files lead to at most one status, output and message.
+/// Words and told files lead to at most one status, output and message; of `emit` to bundles that describe one set.
 pub fn a_run_has_one_ending()
     ensures { OneEnding }
 {
@@ -70,7 +70,7 @@ pub fn a_run_has_one_ending()
     a_set_has_at_most_one_first_breach();
 }
 
-/// No words and told files are without a status, an output and a message.
+/// No words and told files are without a status, an output and a message, those of `emit` aside.
 pub fn a_run_has_an_ending()
     ensures { SomeEnding }
 {
@@ -80,7 +80,7 @@ pub fn a_run_has_an_ending()
 }
 
 /// Where each file of a command is there, within its limit and accepted, and no read and no write failed, a run
-/// ends with status 0 and the whole answer, or out of memory.
+/// ends with status 0 and the whole answer, or out of memory. The set for `emit` has no functions.
 pub fn accepted_files_are_answered()
     ensures { AcceptedAreAnswered }
 {

@@ -3,6 +3,7 @@
 
 mod answer;
 mod command;
+mod emitted;
 mod form;
 mod laws;
 mod printed;

@@ -29,6 +29,8 @@ pub enum Stop<'a> {
     CannotOpen(&'a str),
     /// The file of this name is longer than its limit.
     TooManyBytes(&'a str),
+    /// The set has functions, of which no sections are written yet.
+    NotYet,
     /// A read failed.
     ReadFault,
     /// A write failed.
@@ -60,7 +62,8 @@ pub fn status(stop: Stop<'_>) -> u8
         | Stop::SnapshotLine { .. }
         | Stop::SnapshotOverlap(_)
         | Stop::CannotOpen(_)
-        | Stop::TooManyBytes(_) => 1,
+        | Stop::TooManyBytes(_)
+        | Stop::NotYet => 1,
         Stop::ReadFault => 3,
         Stop::WriteFault => 4,
         Stop::Memory => 5,
@@ -93,6 +96,7 @@ pub fn tell<E: Sink>(err: &mut E, stop: Stop<'_>)
         Stop::SnapshotOverlap(line) => tell_number(err, b"rdbg: snapshot overlap ", line, b""),
         Stop::CannotOpen(name) => tell_text(err, b"rdbg: cannot open ", name.as_bytes()),
         Stop::TooManyBytes(name) => tell_text(err, b"rdbg: too many bytes ", name.as_bytes()),
+        Stop::NotYet => tell_text(err, b"rdbg: not yet", b""),
         Stop::ReadFault => tell_text(err, b"rdbg: read fault", b""),
         Stop::WriteFault => tell_text(err, b"rdbg: write fault", b""),
         Stop::Memory => tell_text(err, b"rdbg: out of memory", b""),

@@ -27,6 +27,9 @@ returns-in-CannotOpen g c = rw (c.in-CannotOpen.is, ← c.as_bytes.ensures.value
 pub returns-in-TooManyBytes : goal.returns-in-TooManyBytes
 returns-in-TooManyBytes g c = rw (c.in-TooManyBytes.is, ← c.as_bytes-in-TooManyBytes.ensures.value) c.tell_text-in-TooManyBytes.ensures
 
+pub returns-in-NotYet : goal.returns-in-NotYet
+returns-in-NotYet g c = rw c.in-NotYet.is c.tell_text-in-NotYet.ensures
+
 pub returns-in-ReadFault : goal.returns-in-ReadFault
 returns-in-ReadFault g c = rw c.in-ReadFault.is c.tell_text-in-ReadFault.ensures
 
