@@ -42,11 +42,15 @@ pub record SayPieces (frame : Frame) (addrs : Addresses) (bytes : List ℕ) (loc
 abbrev pub SayLocation : Frame → Addresses → List ℕ → Option Loc → Type 0
 SayLocation frame addrs bytes loc = SayWhole frame addrs bytes loc ⊎ SayPieces frame addrs bytes loc
 
+-- the bytes at this place begin with the operation
+abbrev pub IsOperation : Frame → Addresses → Oper → ℕ → List ℕ → Type 0
+IsOperation frame addrs o n rest = Splits ((operation frame addrs).spells n (Some o)) (λ _ _. Unit {0}) n rest
+
 -- the operation at this place is the first from the other place on that does something
 pub record StandsFirst (frame : Frame) (addrs : Addresses) (old : Place) (at : ℕ) : Type 0 where
   pub count : ℕ
   pub o : Oper
-  pub stands : Splits (StandAt frame addrs old.at (replicate count None)) (λ n rest. (n ≡ at) × Splits ((operation frame addrs).spells n (Some o)) (λ _ _. Unit {0}) n rest) old.at old.rest
+  pub stands : Splits (StandAt frame addrs old.at (replicate count None)) (λ n rest. (n ≡ at) × IsOperation frame addrs o n rest) old.at old.rest
 
 -- the size of the piece whose operations begin at the old place is invalid
 pub record IsBadSize (frame : Frame) (addrs : Addresses) (old : Place) (rule at : ℕ) : Type 0 where

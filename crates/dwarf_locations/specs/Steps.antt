@@ -97,5 +97,7 @@ said_seen e = record { entry = e.entry; loc = e.loc }
 -- Entries up to this place say these, and leave this base. With what the entries from here on say they are the list at the old place,
 -- and what breaks a rule here does so there.
 pub record LeadsTo (frame : Frame) (addrs : Addresses) (first : ℕ) (old : Place) (said : List Entry) (base : ℕ) (here : Place) : Type 0 where
-  pub taken : (new : Place) (more : List Said) → Takes (row (said_entries frame addrs) false) here new more → Takes (location_list frame addrs first) old new (said ++ entries base more)
-  pub refused : (rule at : ℕ) → (row (said_entries frame addrs) false).faults here.at here.rest rule at → (location_list frame addrs first).faults old.at old.rest rule at
+  pub taken : (new : Place) (more : List Said) → Takes (row (said_entries frame addrs) false) here new more
+      → Takes (location_list frame addrs first) old new (said ++ entries base more)
+  pub refused : (rule at : ℕ) → (row (said_entries frame addrs) false).faults here.at here.rest rule at
+      → (location_list frame addrs first).faults old.at old.rest rule at
